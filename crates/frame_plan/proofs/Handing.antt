@@ -31,9 +31,9 @@ use Rattle.frame_plan.specs.Bindings.{IsBindAt, bind_named}
 use Rattle.frame_plan.specs.Layouts.{IsLaidOut}
 use Rattle.frame_plan.specs.Names.{AreNamesOf}
 use Rattle.frame_plan.specs.References.{IsOfTest, IsTestFor}
-use Rattle.frame_plan.specs.Runs.{IsActingTest, IsStop, IsWithin, PassesOnce, IsFinished, IsEmptied, outline_of}
+use Rattle.frame_plan.specs.Runs.{IsInside, IsActingTest, IsStop, IsWithin, PassesOnce, IsFinished, IsEmptied, outline_of}
 use Rattle.frame_plan.specs.Sections.{limit_told, IsTestOf, EndsBy, IsPlannedFrom, IsTakenBack, IsHandedOut, IsAt, IsNext, IsPlanOf}
-use Rattle.plan_state.specs.Steps.{state_at, IsStep}
+use Rattle.plan_state.specs.Steps.{state_at, IsBefore}
 use Rattle.frame_plan.proofs.NamedWords.{bound}
 use Rattle.frame_plan.proofs.Laying.{scheduled_later}
 use Rattle.frame_plan.proofs.Limiting.{text_passes_none, script_run_passes, run_none}
@@ -51,6 +51,18 @@ not_test g s a h = absurd h
 pub names_handed : (script : Script) (given taken : List (String Global)) → taken ≡ given → AreNamesOf script given → AreNamesOf script taken
 names_handed script given taken e names = subst (AreNamesOf script) (sym e) names
 
+-- the planner stands where the section ends
+abbrev pub at_end : {book : SectionBook} {script : Script} {table : Table} {from : ℕ} → IsPlannedFrom book script table from → IsInside script book.planner
+at_end {book} {script} {table} {from} ready = record {
+  accepted = ready.accepted;
+  table = table;
+  begun = state_at script table from;
+  n = book.at;
+  found = ready.found;
+  inside = ready.inside;
+  stands = ready.stands;
+}
+
 module _ (script : Script) (table : Table) (from : ℕ) (book : SectionBook) (ready : IsPlannedFrom book script table from) (new : Planner)
     (none : Vec (String Global) Global) (plan : Plan) (test : Option Test)
     (finished : IsFinished script book.planner plan) (emptied : IsEmptied book.planner new)
@@ -65,14 +77,14 @@ module _ (script : Script) (table : Table) (from : ℕ) (book : SectionBook) (re
   after = record { planner = new; at = book.at; names = none; spare = book.spare }
 
   done : IsDone (outline_of plan ready.found (state_at script table from)) (state_at script table book.at)
-  done = finished.done table (state_at script table from) book.at ready.found ready.inside ready.stands
+  done = finished.done (at_end ready)
 
   -- the plan has the definitions' ranges, jobs and contents
   laid_out : IsLaidOut script table from book.at plan
   laid_out =
       let starts : Starts = (λ k. get_or ready.found k 0) in
       let h = ready.grown starts (λ k lt. refl) in
-      let planned = some_planned script table book.planner (state_at script table from) book.at ready.found ready.stands ready.accepted ready.inside in
+      let planned = some_planned (at_end ready) in
       let draft = book.planner.draft in
       record {
         starts = starts;
@@ -88,17 +100,24 @@ module _ (script : Script) (table : Table) (from : ℕ) (book : SectionBook) (re
         contents = done.contents;
       }
 
+  abbrev at_test : (x : Statement) → slice_get script.statements.items book.at ≡ Some x → s.passing ≡ 0 → IsBefore script table book.planner x
+  at_test x here acts = record {
+    begun = state_at script table from;
+    n = book.at;
+    found = ready.found;
+    step = record { accepted = ready.accepted; here = here; acts = acts };
+    stands = ready.stands;
+  }
+
   test_of : (x : Statement) → slice_get script.statements.items book.at ≡ Some x → (t : Test) (a : Order) → x.act ≡ a → IsActingTest (setting script table) s a
       → IsOfTest book.planner t a → IsTestOf (setting script table) s (cells_after plan) t a
-  test_of x here t (When name sign value count) is acts of =
-      let step : IsStep script table book.at x = record { accepted = ready.accepted; here = here; acts = acts.0 } in (
-        acts.0,
-        acts.1,
-        of.0,
-        of.1,
-        reference_held script table book.planner
-            (state_at script table from) book.at ready.found x ready.stands step name sign value count is acts.1 (cells_after plan) t.at done.contents of.2,
-      )
+  test_of x here t (When name sign value count) is acts of = (
+    acts.0,
+    acts.1,
+    of.0,
+    of.1,
+    reference_held (at_test x here acts.0) name sign value count is acts.1 (cells_after plan) t.at done.contents of.2,
+  )
   test_of x here t a is acts of = absurd acts
 
   ends : (o : Option Statement) → slice_get script.statements.items book.at ≡ o → IsStop (setting script table) s o → (t : Option Test)
@@ -111,10 +130,7 @@ module _ (script : Script) (table : Table) (from : ℕ) (book : SectionBook) (re
   inside_of : (x : Statement) → slice_get script.statements.items book.at ≡ Some x → (t : Test) (a : Order) → x.act ≡ a
       → IsActingTest (setting script table) s a → IsOfTest book.planner t a → t.at.start < plan.cells
   inside_of x here t (When name sign value count) is acts of =
-      let step : IsStep script table book.at x = record { accepted = ready.accepted; here = here; acts = acts.0 } in
-      reference_inside script table book.planner (state_at script table from) book.at ready.found x ready.stands step name sign value count is acts.1 plan.cells
-      t.at
-      (finished.within table (state_at script table from) book.at ready.found ready.inside ready.stands) of.2
+      reference_inside (at_test x here acts.0) name sign value count is acts.1 plan.cells t.at (finished.within (at_end ready)) of.2
   inside_of x here t a is acts of = absurd acts
 
   inside : (o : Option Statement) → slice_get script.statements.items book.at ≡ o → IsStop (setting script table) s o → (t : Test)
@@ -176,8 +192,7 @@ module _ (script : Script) (table : Table) (from : ℕ) (book : SectionBook) (re
         (subst (IsTestFor book.planner (slice_get script.statements.items book.at)) e tests);
     binds = λ name low.
         subst (IsBindAt s (cells_after plan) plan.cells name) (ap (λ (k : Planner). bind_named k name) (sym emptied.rest))
-        (bound script table book.planner (state_at script table from) book.at ready.found ready.stands name low (cells_after plan) plan.cells done.contents
-        (finished.within table (state_at script table from) book.at ready.found ready.inside ready.stands));
+        (bound (at_end ready) name low (cells_after plan) plan.cells done.contents (finished.within (at_end ready)));
     later = λ some. ready.later (there_too (slice_get script.statements.items book.at) test tests some);
     at = λ some.
         let here = there_too (slice_get script.statements.items book.at) test tests some in

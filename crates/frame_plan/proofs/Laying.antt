@@ -12,6 +12,7 @@ use Rattle.frame_ast.specs.declared.script.Script.{Script}
 use Rattle.frame_ast.specs.declared.script.Statement.{Statement}
 use Rattle.frame_ast.specs.Checks.{refusal}
 use Rattle.frame_ast.specs.Jobs.{Jobs}
+use Rattle.frame_ast.specs.Accepted.{IsAccepted}
 use Rattle.frame_ast.specs.Orders.{Table, Setting, setting}
 use Rattle.frame_ast.specs.Ranges.{Starts, Takes, AreFirstFits}
 use Rattle.frame_ast.specs.Refusals.{Refused}
@@ -24,7 +25,7 @@ use Rattle.frame_core.proofs.Small.{some_is, none_some, get_before, get_below}
 use Rattle.plan_state.specs.declared.state.Planner.{Planner}
 use Rattle.plan_state.specs.Growth.{span_by, greatest_end, StartAs, HasJobOf, IsJobOf, Schedules, SchedulesUnless, deps_after, Awaits, AwaitsUnless, IsStartedAfter, HasWaited, unless_none, newly_completed, Grows}
 use Rattle.frame_plan.specs.Layouts.{span_of, spans_at, spans_between, completed_at, completed_between, HasItsJob, AreScheduled, HasRanges, HasGrown}
-use Rattle.frame_plan.specs.Runs.{IsFurther, HasGone}
+use Rattle.frame_plan.specs.Runs.{IsAtStatement, IsFurther, HasGone}
 use Rattle.plan_state.specs.Steps.{state_at, StandsAt}
 use Rattle.plan_state.proofs.Reaching.{next_state}
 
@@ -227,12 +228,24 @@ fewer starts found more same k lt =
     same k (let e = length-append found more in omega arith)
     ∙ get_or_append_left found more 0 k lt
 
-pub gone_further : (script : Script) (table : Table) (old p q : Planner) (begun : ScriptState) (from n : ℕ) (found : List ℕ) (x : Statement)
-    → slice_get script.statements.items n ≡ Some x → from ≤ n
-    → (h : HasGone script table old p begun from found n)
-    → IsFurther script table begun n (found ++ h.more) p q x
+-- where it has gone it stands before the next statement
+abbrev pub at_gone : {script : Script} {table : Table} {old p : Planner} {begun : ScriptState} {from : ℕ} {found : List ℕ} {n : ℕ} {x : Statement}
+    → IsAccepted script → HasGone script table old p begun from found n → slice_get script.statements.items n ≡ Some x → IsAtStatement script table p x
+at_gone {begun = begun} {found = found} {n = n} accepted h here = record {
+  accepted = accepted;
+  begun = begun;
+  n = n;
+  found = found ++ h.more;
+  here = here;
+  stands = h.stands;
+}
+
+pub gone_further : {script : Script} {table : Table} {old p q : Planner} {begun : ScriptState} {from n : ℕ} {found : List ℕ} {x : Statement}
+    (accepted : IsAccepted script) (h : HasGone script table old p begun from found n) (here : slice_get script.statements.items n ≡ Some x)
+    → from ≤ n
+    → IsFurther (at_gone accepted h here) q
     → HasGone script table old q begun from found (suc n)
-gone_further script table old p q begun from n found x here le h f =
+gone_further {script} {table} {old} {p} {q} {begun} {from} {n} {found} {x} accepted h here le f =
     let all : (found ++ h.more) ++ f.more ≡ found ++ (h.more ++ f.more) = append_assoc found h.more f.more in
     record {
       more = h.more ++ f.more;

@@ -26,14 +26,14 @@ use Rattle.frame_core.proofs.Small.{some_is, none_some, not_both, get_below}
 use Rattle.plan_laws.specs.Binds.{bind_of}
 use Rattle.plan_laws.specs.Leaving.{AllHeld}
 use Rattle.kernel_exec.specs.Binds.{end_of}
-use Rattle.plan_laws.proofs.Making.{alive_is_live}
+use Rattle.plan_laws.proofs.Statements.Making.{alive_is_live}
 use Rattle.frame_plan.specs.Runs.{AreWithin}
 use Rattle.plan_state.specs.declared.state.Value.{Value}
 use Rattle.plan_state.specs.declared.state.Value.TheVariants.{Dead, Whole, Slice, View, Jobs}
 use Rattle.plan_state.specs.declared.state.Planner.{Planner}
 use Rattle.frame_plan.specs.References.{IsReferenceOf}
 use Rattle.plan_state.specs.Stands.{jobs_at, value_for, IsThere}
-use Rattle.plan_state.specs.Steps.{state_at, StandsAt, IsStep}
+use Rattle.plan_state.specs.Steps.{state_at, IsBefore}
 use Rattle.plan_state.proofs.Accessing.{there}
 use Rattle.plan_state.proofs.Reaching.{holds_kinds, fits_at, used_below}
 
@@ -48,87 +48,84 @@ dead_handle : (s : ScriptState) (o : Option Handle) → is_alive s (jobs_at o) �
 dead_handle s None e = not_both e refl
 dead_handle s (Some h) e = not_both e refl
 
-module _ (script : Script) (table : Table) (p : Planner) (begun : ScriptState) (n : ℕ) (found : List ℕ) (x : Statement)
-    (st : StandsAt p script table begun n found) (step : IsStep script table n x)
-    (name : ℕ) (sign : Sign) (value : ℤ) (count : ℕ) (is : x.act ≡ When name sign value count)
-    (none : refusal (setting script table) (state_at script table n) (When name sign value count) ≡ None) where
-  s : ScriptState
+module _ {script : Script} {table : Table} {p : Planner} {x : Statement} (b : IsBefore script table p x) (name : ℕ) (sign : Sign) (value : ℤ) (count : ℕ)
+    (is : x.act ≡ When name sign value count) (none : refusal (setting script table) (state_at script table b.n) (When name sign value count) ≡ None) where
+  open b use {n, found, step, stands as st}
+
+  abbrev s : ScriptState
   s = state_at script table n
 
-  alive : is_alive (state_at script table n) ((state_at script table n).values name) ≡ true
-  alive = lives (state_at script table n) name (first_none (disposed (state_at script table n) (name ∷ [])) (busy (state_at script table n) name ∷ []) none).0
+  alive : is_alive s (s.values name) ≡ true
+  alive = lives s name (first_none (disposed s (name ∷ [])) (busy s name ∷ []) none).0
 
-  is_fit : order_fits (record { kinds = step.accepted.kinds; made = (fits_at script table n x step).made }) (setting script table).literals
-      (setting script table).kernels (fits_at script table n x step).rest (fits_at script table n x step).inside (When name sign value count) ≡ true
-  is_fit = subst (λ a. order_fits (record { kinds = step.accepted.kinds; made = (fits_at script table n x step).made }) (setting script table).literals
-      (setting script table).kernels (fits_at script table n x step).rest (fits_at script table n x step).inside a ≡ true) is
-      (fits_at script table n x step).fits
+  is_fit : order_fits (record { kinds = step.accepted.kinds; made = (fits_at step).made }) (setting script table).literals
+      (setting script table).kernels (fits_at step).rest (fits_at step).inside (When name sign value count) ≡ true
+  is_fit = subst (λ a. order_fits (record { kinds = step.accepted.kinds; made = (fits_at step).made }) (setting script table).literals
+      (setting script table).kernels (fits_at step).rest (fits_at step).inside a ≡ true) is (fits_at step).fits
 
-  is_use : uses (record { kinds = step.accepted.kinds; made = (fits_at script table n x step).made }) name (RefName ∷ []) ≡ true
-  is_use = (and_parts (uses (record { kinds = step.accepted.kinds; made = (fits_at script table n x step).made }) name (RefName ∷ []))
-      (nat_le count (fits_at script table n x step).rest && nat_eq (fits_at script table n x step).inside 0) is_fit).0
+  is_use : uses (record { kinds = step.accepted.kinds; made = (fits_at step).made }) name (RefName ∷ []) ≡ true
+  is_use = (and_parts (uses (record { kinds = step.accepted.kinds; made = (fits_at step).made }) name (RefName ∷ []))
+      (nat_le count (fits_at step).rest && nat_eq (fits_at step).inside 0) is_fit).0
 
   pub name_below : name < length (setting script table).names
-  name_below = used_below script table n x step (fits_at script table n x step).made name (RefName ∷ []) is_use
+  name_below = used_below step (fits_at step).made name (RefName ∷ []) is_use
 
-  of_kind : IsOfKind (state_at script table n) RefName ((state_at script table n).values name)
+  of_kind : IsOfKind s RefName (s.values name)
   of_kind =
-      let u = is_used (record { kinds = step.accepted.kinds; made = (fits_at script table n x step).made }) name (RefName ∷ []) is_use in
-      subst (λ k. IsOfKind (state_at script table n) k ((state_at script table n).values name)) (one_kind u.kind RefName u.fits)
-      ((holds_kinds script table n x step).names name u.kind u.at)
+      let u = is_used (record { kinds = step.accepted.kinds; made = (fits_at step).made }) name (RefName ∷ []) is_use in
+      subst (λ k. IsOfKind s k (s.values name)) (one_kind u.kind RefName u.fits) ((holds_kinds step).names name u.kind u.at)
 
   pub reference : (at : RefAt) × IsReferenceOf p name at
   reference =
       let v = there p.world.values.items name (let lt = name_below in let e = st.knows.each in omega arith) in
       by v.0 v.1 (st.knows.names.are name v.0 v.1) (st.knows.names.there name v.0 v.1)
     where
-      by : (v : Value) → slice_get p.world.values.items name ≡ Some v → value_for p.world.handles.items v ≡ (state_at script table n).values name
+      by : (v : Value) → slice_get p.world.values.items name ≡ Some v → value_for p.world.handles.items v ≡ s.values name
           → IsThere (length p.world.containers.items) (length p.world.handles.items) v → (at : RefAt) × IsReferenceOf p name at
-      by Dead e f h = absurd (not_both alive (ap (is_alive (state_at script table n)) (sym f)))
+      by Dead e f h = absurd (not_both alive (ap (is_alive s) (sym f)))
       by (Whole c) e f h =
           let it = there p.world.containers.items c h in
-          let k = subst (IsOfKind (state_at script table n) RefName) (sym f) of_kind in
-          let z = single ((state_at script table n).contents c) k.0 in
+          let k = subst (IsOfKind s RefName) (sym f) of_kind in
+          let z = single (s.contents c) k.0 in
           let con = st.knows.containers.each c it.0 it.1 in (
-            record { start = get_or found ((state_at script table n).range c) 0 },
+            record { start = get_or found (s.range c) 0 },
             record {
               container = c;
               it = it.0;
               value = e;
               has = it.1;
-              bind = con.bind ∙ ap (bind_of (get_or found ((state_at script table n).range c) 0)) z.1;
+              bind = con.bind ∙ ap (bind_of (get_or found (s.range c) 0)) z.1;
             },
           )
-      by (Slice c from len) e f h = let k = subst (IsOfKind (state_at script table n) RefName) (sym f) of_kind in let bad = k.0 in absurd cc
-      by (View c number) e f h = let k = subst (IsOfKind (state_at script table n) RefName) (sym f) of_kind in let bad = k.0 in absurd cc
-      by (Jobs k) e f h = absurd (dead_handle (state_at script table n) (slice_get p.world.handles.items k) (ap (is_alive (state_at script table n)) f ∙ alive))
+      by (Slice c from len) e f h = let k = subst (IsOfKind s RefName) (sym f) of_kind in let bad = k.0 in absurd cc
+      by (View c number) e f h = let k = subst (IsOfKind s RefName) (sym f) of_kind in let bad = k.0 in absurd cc
+      by (Jobs k) e f h = absurd (dead_handle s (slice_get p.world.handles.items k) (ap (is_alive s) f ∙ alive))
 
-  pub reference_held : (cells : Memory) (at : RefAt) → AllHeld (λ k. get_or found k 0) (state_at script table n) cells → IsReferenceOf p name at
-      → Holds cells (Ref at) (contents_at (state_at script table n) name)
+  pub reference_held : (cells : Memory) (at : RefAt) → AllHeld (λ k. get_or found k 0) s cells → IsReferenceOf p name at
+      → Holds cells (Ref at) (contents_at s name)
   reference_held cells at held r =
-      let v : states.Whole r.container ≡ (state_at script table n).values name = st.knows.names.are name (Whole r.container) r.value in
-      let below : r.container < (state_at script table n).made = (let lt = get_below p.world.containers.items r.container r.it r.has
+      let v : states.Whole r.container ≡ s.values name = st.knows.names.are name (Whole r.container) r.value in
+      let below : r.container < s.made = (let lt = get_below p.world.containers.items r.container r.it r.has
       in let e = st.knows.containers.made in
       omega arith) in
-      let on : (state_at script table n).alive r.container ≡ true = ap (is_alive (state_at script table n)) v ∙ alive in
+      let on : s.alive r.container ≡ true = ap (is_alive s) v ∙ alive in
       let con = st.knows.containers.each r.container r.it r.has in
-      let same : bind_of (get_or found ((state_at script table n).range r.container) 0) ((state_at script table n).contents r.container) ≡ Ref at = sym con.bind
+      let same : bind_of (get_or found (s.range r.container) 0) (s.contents r.container) ≡ Ref at = sym con.bind
       ∙ r.bind in
-      subst (λ w. Holds cells (Ref at) ((state_at script table n).contents (container_of w))) v
-      (subst (λ b. Holds cells b ((state_at script table n).contents r.container)) same (held r.container below on))
+      subst (λ w. Holds cells (Ref at) (s.contents (container_of w))) v (subst (λ b. Holds cells b (s.contents r.container)) same (held r.container below on))
 
   -- and the word lies within what holds all that is live
-  pub reference_inside : (last : ℕ) (at : RefAt) → AreWithin last found (state_at script table n) → IsReferenceOf p name at → at.start < last
+  pub reference_inside : (last : ℕ) (at : RefAt) → AreWithin last found s → IsReferenceOf p name at → at.start < last
   reference_inside last at within r =
-      let v : states.Whole r.container ≡ (state_at script table n).values name = st.knows.names.are name (Whole r.container) r.value in
-      let below : r.container < (state_at script table n).made = (let lt = get_below p.world.containers.items r.container r.it r.has
+      let v : states.Whole r.container ≡ s.values name = st.knows.names.are name (Whole r.container) r.value in
+      let below : r.container < s.made = (let lt = get_below p.world.containers.items r.container r.it r.has
       in let e = st.knows.containers.made in
       omega arith) in
-      let on : (state_at script table n).alive r.container ≡ true = ap (is_alive (state_at script table n)) v ∙ alive in
+      let on : s.alive r.container ≡ true = ap (is_alive s) v ∙ alive in
       let con = st.knows.containers.each r.container r.it r.has in
-      let same : bind_of (get_or found ((state_at script table n).range r.container) 0) ((state_at script table n).contents r.container) ≡ Ref at = sym con.bind
+      let same : bind_of (get_or found (s.range r.container) 0) (s.contents r.container) ≡ Ref at = sym con.bind
       ∙ r.bind in
-      let le = subst (λ b. end_of b ≤ last) same (within r.container (alive_is_live (state_at script table n) r.container below on)) in
+      let le = subst (λ b. end_of b ≤ last) same (within r.container (alive_is_live s r.container below on)) in
       omega arith
 
 -- the first statement is no test

@@ -36,7 +36,7 @@ use Rattle.plan_laws.specs.Binds.{bind_of, bind_of_container}
 use Rattle.plan_laws.specs.Drafts.{Draft, empty_draft}
 use Rattle.plan_laws.specs.Leaving.{AllHeld}
 use Rattle.plan_laws.specs.Planned.{Outline, IsPlanned}
-use Rattle.plan_laws.proofs.Making.{live_below}
+use Rattle.plan_laws.proofs.Statements.Making.{live_below}
 use Rattle.plan_laws.proofs.Owners.{words_apart}
 use Rattle.plan_laws.proofs.Sections.{sections_begin}
 use Rattle.frame_plan.specs.declared.sections.SectionBook.{SectionBook}
@@ -136,7 +136,8 @@ module _ (script : Script) (table : Table) (old : Planner) (begun : ScriptState)
   inside = let lt = get_below script.statements.items n x here in omega arith
 
   planned_before : IsPlanned (outline_of (plan_so_far script old) found begun) s (draft_of old)
-  planned_before = some_planned script table old begun n found st accepted inside
+  planned_before = some_planned {script = script} {p = old}
+      (record { accepted = accepted; table = table; begun = begun; n = n; found = found; inside = inside; stands = st })
 
   range_known : (c : ℕ) → c < s.made → s.range c < length found
   range_known c lt =

@@ -10,9 +10,7 @@ use Rattle.job_base.specs.declared.limits.TheConstants.{MOST_JOBS, MOST_PIECES, 
 use Rattle.batch_cut.specs.Cuts.{count_of}
 use Rattle.frame_ast.specs.declared.kernel.Kernel.{Kernel}
 use Rattle.frame_ast.specs.declared.script.Script.{Script}
-use Rattle.frame_ast.specs.Accepted.{IsAccepted}
-use Rattle.frame_ast.specs.Orders.{Table, setting}
-use Rattle.frame_ast.specs.States.{ScriptState}
+use Rattle.frame_ast.specs.Orders.{setting}
 use Rattle.kernel_bytecode.specs.declared.code.Code.{Code}
 use Rattle.slot_store.specs.Stores.{peak_of}
 use Rattle.frame_core.specs.declared.plan.JobPlan.{JobPlan}
@@ -25,9 +23,9 @@ use Rattle.plan_laws.specs.Finishing.{IsDone}
 use Rattle.plan_laws.specs.Planned.{AreJobsUpTo, IsPlanned}
 use Rattle.plan_laws.proofs.Becoming.{drafts_become_plans}
 use Rattle.plan_state.specs.declared.state.Planner.{Planner}
-use Rattle.frame_plan.specs.Runs.{AreWithin, outline_of}
+use Rattle.frame_plan.specs.Runs.{AreWithin, IsInside, outline_of}
 use Rattle.plan_state.specs.Stands.{Agrees, draft_of}
-use Rattle.plan_state.specs.Steps.{state_at, StandsAt}
+use Rattle.plan_state.specs.Steps.{state_at}
 use Rattle.plan_state.proofs.Accessing.{there}
 use Rattle.frame_plan.proofs.Passing.{stands_within}
 
@@ -97,8 +95,9 @@ plan_so_far script p = record no_plan {
   cells = peak_of p.world.store;
 }
 
-module _ (script : Script) (table : Table) (p : Planner) (begun : ScriptState) (n : ℕ) (found : List ℕ) (st : StandsAt p script table begun n found)
-    (accepted : IsAccepted script) (inside : n ≤ length script.statements.items) where
+module _ {script : Script} {p : Planner} (at : IsInside script p) where
+  open at use {accepted, table, begun, n, found, inside, stands as st}
+
   peak_small : peak_of p.world.store < 2 ^ 32
   peak_small = let low = st.numbers.peak_low in let few = st.numbers.created_few in omega arith
 

@@ -64,41 +64,33 @@ pub record IsAtStatement (script : Script) (table : Table) (p : Planner) (x : St
   pub here : slice_get script.statements.items n ≡ Some x
   pub stands : StandsAt p script table begun n found
 
--- Something is so of each place at which the planner stands before the statement.
-abbrev pub AtPlace : Script → Table → Planner → Statement → (ScriptState → ℕ → List ℕ → Type 0) → Type 0
-AtPlace script table p x Holds = (begun : ScriptState) (n : ℕ) (found : List ℕ)
-    → slice_get script.statements.items n ≡ Some x
-    → StandsAt p script table begun n found
-    → Holds begun n found
-
--- it stands one statement further on, and has what the statement adds
-pub record IsFurther (script : Script) (table : Table) (begun : ScriptState) (n : ℕ) (found : List ℕ)
-    (old new : Planner) (x : Statement) : Type 0 where
+-- It stands one statement further on, and has what the statement adds.
+pub record IsFurther {script : Script} {table : Table} {old : Planner} {x : Statement}
+    (at : IsAtStatement script table old x) (new : Planner) : Type 0 where
   pub more : List ℕ
-  pub stands : StandsAt new script table begun (suc n) (found ++ more)
+  pub stands : StandsAt new script table at.begun (suc at.n) (at.found ++ more)
   pub grows : (starts : Starts)
-      → StartAs starts (found ++ more)
-      → Grows (setting script table) (state_at script table n) x starts begun.book.count old new
+      → StartAs starts (at.found ++ more)
+      → Grows (setting script table) (state_at script table at.n) x starts at.begun.book.count old new
 
 abbrev pub HasPassed : Script → Table → Planner → Planner → Statement → Type 0
-HasPassed script table old new x =
-    AtPlace script table old x (λ begun n found. IsFurther script table begun n found old new x)
+HasPassed script table old new x = (at : IsAtStatement script table old x) → IsFurther at new
 
 -- the statement is a test that acts
 abbrev pub StopsAt : Script → Table → Planner → Statement → Type 0
-StopsAt script table old x = AtPlace script table old x (λ begun n found.
-    IsActingTest (setting script table) (state_at script table n) x.act)
+StopsAt script table old x = (at : IsAtStatement script table old x)
+    → IsActingTest (setting script table) (state_at script table at.n) x.act
 
 -- it isn't one
 abbrev pub GoesPast : Script → Table → Planner → Statement → Type 0
-GoesPast script table old x = AtPlace script table old x (λ begun n found.
-    IsActingTest (setting script table) (state_at script table n) x.act
-    → ⊥)
+GoesPast script table old x = (at : IsAtStatement script table old x)
+    → IsActingTest (setting script table) (state_at script table at.n) x.act
+    → ⊥
 
 -- the state afterwards passes a limit
 abbrev pub FailsAtPlace : Script → Table → PlanFault → Planner → Statement → Type 0
-FailsAtPlace script table fault old x = AtPlace script table old x (λ begun n found.
-    PassesLimit fault (state_at script table (suc n)))
+FailsAtPlace script table fault old x = (at : IsAtStatement script table old x)
+    → PassesLimit fault (state_at script table (suc at.n))
 
 -- ALL STATEMENTS up to a stop
 
@@ -151,6 +143,16 @@ outline_of plan found begun = record { plan = plan; starts = λ k. get_or found 
 abbrev pub AreWithin : ℕ → List ℕ → ScriptState → Type 0
 AreWithin last found s = (c : ℕ) → is_live s c ≡ true → end_of (bind_of_container (λ k. get_or found k 0) s c) ≤ last
 
+-- The planner stands somewhere in an accepted script.
+pub record IsInside (script : Script) (p : Planner) : Type 0 where
+  pub accepted : IsAccepted script
+  pub table : Table
+  pub begun : ScriptState
+  pub n : ℕ
+  pub found : List ℕ
+  pub inside : n ≤ length script.statements.items
+  pub stands : StandsAt p script table begun n found
+
 -- The plan is that of a section which began in a state, up to the statement at which the planner stands.
 pub record IsFinished (script : Script) (p : Planner) (plan : Plan) : Type 0 where
   pub cells : plan.cells ≡ peak_of p.world.store
@@ -164,15 +166,9 @@ pub record IsFinished (script : Script) (p : Planner) (plan : Plan) : Type 0 whe
   pub segments : plan.segments.items ≡ p.draft.segments.items ++ segments_later
   -- it waits for what was waited for, and then for all of its jobs
   pub waits : waits_of plan.segments.items ≡ waits_by p ++ unless_none (first_jobs (length p.draft.jobs.items))
-  pub done : (table : Table) (begun : ScriptState) (n : ℕ) (found : List ℕ)
-      → n ≤ length script.statements.items
-      → StandsAt p script table begun n found
-      → IsDone (outline_of plan found begun) (state_at script table n)
+  pub done : (at : IsInside script p) → IsDone (outline_of plan at.found at.begun) (state_at script at.table at.n)
   -- the words of what is live lie within the plan
-  pub within : (table : Table) (begun : ScriptState) (n : ℕ) (found : List ℕ)
-      → n ≤ length script.statements.items
-      → StandsAt p script table begun n found
-      → AreWithin plan.cells found (state_at script table n)
+  pub within : (at : IsInside script p) → AreWithin plan.cells at.found (state_at script at.table at.n)
 
 -- The planner has no plan, and is otherwise as it was: it knows the places that copies of kernels had.
 pub record IsEmptied (old new : Planner) : Type 0 where

@@ -1,5 +1,6 @@
 // What statements answer that are no schedules: they change what statements see, and leave the draft to their caller.
 ghost use Rattle.std.specs.Prelude.{◌≡◌, true, IfOk, IfErr};
+ghost use Rattle.frame_ast.specs.Orders.{Table as Columns};
 ghost use Rattle.frame_plan.specs.Runs.{adds_no_job};
 ghost use Rattle.plan_state.specs.declared.state.Planner.{Planner};
 ghost use Rattle.plan_state.specs.Answers.{AnswersIn, ExceedsIn};
@@ -19,7 +20,8 @@ pub(crate) fn answer(
     table: &Table,
     statement: &Statement,
 ) -> Result<Answer, PlanFault>
-    requires ready { (p : Planner) × IsBefore script.now (record p { world = world.old }) statement.now }
+    requires ready { (p : Planner) × (columns : Columns)
+        × IsBefore script.now columns (record p { world = world.old }) statement.now }
     requires other { adds_no_job statement.now.act ≡ true }
     ensures answers { IfOk result (AnswersIn script.now (columns_of table.now) world.old world.new statement.now) }
     ensures fails { IfErr result (λ fault.

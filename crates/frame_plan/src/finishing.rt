@@ -1,14 +1,10 @@
 // The plan so far becomes a whole one.
-ghost use Rattle.std.specs.Prelude.{◌≡◌, ◌≤◌, ℕ, List, IfOk, OnOk, length};
+ghost use Rattle.std.specs.Prelude.{◌≡◌, IfOk, OnOk};
 ghost use Rattle.job_base.specs.declared.limits.TheConstants.{MOST_JOBS};
 ghost use Rattle.frame_ast.specs.declared.script.Script.{Script};
-ghost use Rattle.frame_ast.specs.Accepted.{IsAccepted};
-ghost use Rattle.frame_ast.specs.Orders.{Table};
-ghost use Rattle.frame_ast.specs.States.{ScriptState};
 ghost use Rattle.plan_state.specs.Growth.{first_jobs};
 ghost use Rattle.frame_plan.specs.Names.{AreNamesOf};
-ghost use Rattle.frame_plan.specs.Runs.{IsFinished, IsEmptied};
-ghost use Rattle.plan_state.specs.Steps.{StandsAt};
+ghost use Rattle.frame_plan.specs.Runs.{IsInside, IsFinished, IsEmptied};
 
 use frame_core::{Plan, Segment};
 use job_base::{JobId, NoMemory};
@@ -23,11 +19,8 @@ pub(crate) fn finish(
     alloc: Global,
     names: Vec<String>,
 ) -> Result<Plan, NoMemory>
-    requires { (script : Script) × (table : Table) × (begun : ScriptState) × (n : ℕ) × (found : List ℕ)
-        × StandsAt planner.old script table begun n found
-        × (n ≤ length script.statements.items) × IsAccepted script }
-    ensures plan { (script : Script) → IsAccepted script → AreNamesOf script names.items
-        → IfOk result (IsFinished script planner.old) }
+    requires { (script : Script) × IsInside script planner.old }
+    ensures plan { (script : Script) → AreNamesOf script names.items → IfOk result (IsFinished script planner.old) }
     ensures names { IfOk result (λ plan. plan.names.items ≡ names.items) }
     ensures emptied { OnOk result (IsEmptied planner.old planner.new) }
 {

@@ -113,7 +113,7 @@ module _ (s : ScriptState) (d : Bool) where
 
 -- ---- all arguments
 
-module _ (p : Planner) (g : Setting) (begun : ScriptState) (n : ℕ) (s : ScriptState) (found : List ℕ) (st : Stands p g begun n s found) (x : Outline)
+module _ {p : Planner} {g : Setting} {begun : ScriptState} {n : ℕ} {s : ScriptState} {found : List ℕ} (st : Stands p g begun n s found) (x : Outline)
     (a : Agrees p g begun found x) (defer : Option (ℕ × ℕ)) where
   arg_is : (q : Param) (width : ℕ) (arg : Arg) → IsNameBelow (length p.world.values.items) arg → ArgFits s defer q arg
       → job_bind p.world q.kind width arg ≡ bind_by x.starts s q width arg
@@ -122,7 +122,7 @@ module _ (p : Planner) (g : Setting) (begun : ScriptState) (n : ℕ) (s : Script
       let v = some_at p.world.values.items m below in
       let usable : IsUsable s m = record { below = fit.made; fits = fits_contents s (is_deferred defer m) q.kind (s.values m) fit.value } in
       ap (λ o. as_kind q.kind width (bind_of_value p.world o)) v.1
-      ∙ ap (as_kind q.kind width) (binds_at p g begun n s found st x a m v.0 v.1 usable)
+      ∙ ap (as_kind q.kind width) (binds_at st x a m v.0 v.1 usable)
       ∙ kind_is s (is_deferred defer m) q.kind width (start_at x.starts s m) (s.values m) fit.value
 
   pub args_are : (parallel : Bool) (waive : List ℕ) (y : ℕ) (qs : List Param) (args : List Arg) → EachBelow (length p.world.values.items) args

@@ -23,7 +23,7 @@ use Rattle.plan_laws.specs.Planned.{Outline}
 use Rattle.plan_state.specs.declared.state.Planner.{Planner}
 use Rattle.plan_state.specs.Growth.{given_so_far, greatest_end, StartAs, IsJobOf, HasJobOf, Schedules, SchedulesUnless, deps_after, is_none, waits_in, HasWaited, IsStartedAfter, Awaits, AwaitsUnless, unless_none, waits_by, newly_completed, Grows}
 use Rattle.plan_state.specs.Stands.{Agrees, Stands}
-use Rattle.plan_state.specs.Steps.{state_at, IsStep, StandsAt, HasStepped}
+use Rattle.plan_state.specs.Steps.{state_at, IsBefore, HasStepped}
 use Rattle.plan_state.proofs.Outlining as outlining
 use Rattle.plan_state.proofs.Quiet.{each_closed, given_closed, plain_span, plain_takes, waits_closed, waits_stay}
 use Rattle.frame_ast.specs.declared.script.NewJob.{NewJob}
@@ -46,14 +46,15 @@ none_waived [] e = refl
 none_waived (x ∷ xs) e = absurd cc
 
 -- Starts that agree with those found so far give a whole plan that goes on from the plan so far.
-module _ (p : Planner) (script : Script) (table : Table) (begun : ScriptState) (n : ℕ) (s : ScriptState) (found : List ℕ)
-    (st : Stands p (setting script table) begun n s found) (starts : Starts) where
+module _ {script : Script} {table : Table} {p : Planner} {x : Statement} (b : IsBefore script table p x) (starts : Starts) where
+  open b use {begun, n, found, stands as st}
+
   abbrev pub outline_by : Outline
-  outline_by = record (outlining.outline p script table begun n s found st) { starts = starts }
+  outline_by = record (outlining.outline p script table begun n (state_at script table n) found st) { starts = starts }
 
   pub agrees_by : StartAs starts found → Agrees p (setting script table) begun found outline_by
   agrees_by h =
-      let a = outlining.agrees p script table begun n s found st in
+      let a = outlining.agrees p script table begun n (state_at script table n) found st in
       record {
         begins = a.begins;
         names = a.names;
@@ -68,17 +69,19 @@ module _ (p : Planner) (script : Script) (table : Table) (begun : ScriptState) (
 
 -- ---- the statement
 
-module _ (script : Script) (table : Table) (begun : ScriptState) (n : ℕ) (found : List ℕ) (line : ℕ) (home : Box NewJob Global) (asked : NewJob) where
-  abbrev g : Setting
-  g = setting script table
-
-  abbrev s : ScriptState
-  s = state_at script table n
-
+module _ (line : ℕ) (home : Box NewJob Global) (asked : NewJob) where
   abbrev pub x : Statement
   x = record { line = line; act = Schedule (in_box home asked) }
 
-  module _ (p new : Planner) where
+  module _ {script : Script} {table : Table} {p : Planner} (b : IsBefore script table p x) (new : Planner) where
+    open b use {begun, n, found, step, stands as st}
+
+    abbrev g : Setting
+    g = setting script table
+
+    abbrev s : ScriptState
+    s = state_at script table n
+
     -- The planner closed the segment at hand, and started a job that the schedule is to have.
     pub record HasStarted (segment : Segment) (job : JobPlan) (waited : Jobs) : Type 0 where
       pub store : new.world.store ≡ p.world.store
@@ -95,8 +98,7 @@ module _ (script : Script) (table : Table) (begun : ScriptState) (n : ℕ) (foun
           → StartAs starts found
           → IsJobOf g starts begun.book.count s waited asked.kernel asked.args.items asked.cut asked.defer asked.waive.items new.draft.kernels.items job
 
-    module _ (step : IsStep script table n x) (none : refusal g s x.act ≡ None) (st : StandsAt p script table begun n found) (segment : Segment) (job : JobPlan)
-        (waited : Jobs) (is : HasStarted segment job waited) where
+    module _ (none : refusal g s x.act ≡ None) (segment : Segment) (job : JobPlan) (waited : Jobs) (is : HasStarted segment job waited) where
       spans_stay : given_so_far new ≡ given_so_far p
       spans_stay =
           given_closed p.draft.segments.items new.draft.segments.items segment p.draft.ops.items new.draft.ops.items is.segments is.ops_were is.ops
@@ -185,7 +187,7 @@ module _ (script : Script) (table : Table) (begun : ScriptState) (n : ℕ) (foun
           or_none k = omega arith
 
       -- so it goes on, where it stands for the state afterwards
-      pub stepped : Stands new g begun (suc n) (act g s x) found → HasStepped script table begun n found p new x
+      pub stepped : Stands new g begun (suc n) (act g s x) found → HasStepped b new
       stepped stands = record {
         more = [];
         stands = subst (Stands new g begun (suc n) (act g s x)) (sym (append-nil found)) stands;

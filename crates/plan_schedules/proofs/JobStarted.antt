@@ -38,9 +38,9 @@ use Rattle.plan_laws.specs.Binds.{binds_by}
 use Rattle.plan_laws.specs.Ledgers.{later}
 use Rattle.plan_laws.specs.Planned.{Outline, IsPlanned, Closes, jobs_before}
 use Rattle.plan_laws.specs.ScheduleTexts.{schedule_by, IsScheduleOf}
-use Rattle.plan_laws.proofs.Making.{at_here, at_other}
-use Rattle.plan_laws.proofs.ScheduleTexts.{schedules_are_accepted}
-use Rattle.plan_laws.proofs.Uses.{unblocked, deps_up}
+use Rattle.plan_laws.proofs.Statements.Making.{at_here, at_other}
+use Rattle.plan_laws.proofs.Schedules.ScheduleTexts.{schedules_are_accepted}
+use Rattle.plan_laws.proofs.Schedules.Uses.{unblocked, deps_up}
 use Rattle.plan_schedules.specs.declared.accepting.Run.{Run}
 use Rattle.plan_state.specs.declared.state.Container.{Container}
 use Rattle.plan_state.specs.declared.state.Planner.{Planner}
@@ -51,7 +51,7 @@ use Rattle.plan_state.specs.Growth.{StartAs, IsCopyFor, IsJobOf, length_binds, n
 use Rattle.plan_schedules.specs.Noting.{MayNoteAll, noted_all}
 use Rattle.plan_state.specs.Stands.{AreKernels, AreNames, Agrees, Stands, draft_of}
 use Rattle.plan_schedules.specs.Starting.{IsCutBy}
-use Rattle.plan_state.specs.Steps.{state_at, state_after, IsStep, StandsAt, HasStepped}
+use Rattle.plan_state.specs.Steps.{state_at, state_after, IsBefore, HasStepped}
 use Rattle.plan_schedules.proofs.Choosing.{AreAlive}
 use Rattle.plan_schedules.proofs.Taken.{IsScheduled}
 use Rattle.plan_schedules.proofs.Meaning.{AreMeant}
@@ -74,7 +74,10 @@ pub record HasPlace (p : Planner) (g : Setting) (kernels guards : Vec (Option �
   pub later : (all : List Kernel) → (rest : List Kernel) × (all ≡ copies.items ++ rest) → (rest : List Kernel) × (all ≡ p.draft.kernels.items ++ rest)
   pub stand : (q : Planner) → q.draft.copies_of ≡ kernels → q.draft.guards_of ≡ guards → q.draft.kernels ≡ copies → q.draft.codes ≡ codes → AreKernels q g
 
-module _ (script : Script) (table : Table) (begun : ScriptState) (n : ℕ) (found : List ℕ) (line : ℕ) (home : Box NewJob Global) (asked : NewJob) where
+module _ (line : ℕ) (home : Box NewJob Global) (asked : NewJob)
+    {script : Script} {table : Table} {p : Planner} (b : IsBefore script table p (growing.x line home asked)) where
+  open b use {begun, n, found, step, stands as st}
+
   abbrev g : Setting
   g = setting script table
 
@@ -82,7 +85,7 @@ module _ (script : Script) (table : Table) (begun : ScriptState) (n : ℕ) (foun
   s = state_at script table n
 
   abbrev x : Statement
-  x = growing.x script table begun n found line home asked
+  x = growing.x line home asked
 
   abbrev pub o : Schedule
   o = schedule_by asked
@@ -97,7 +100,7 @@ module _ (script : Script) (table : Table) (begun : ScriptState) (n : ℕ) (foun
   gives = uses_of g s o
 
   -- The noted uses mean values of the script, which do what all values of the schedule do.
-  pub record IsNoted (p : Planner) (named : Jobs) (us : List NamedUse) (gs : List Given) : Type 0 where
+  pub record IsNoted (named : Jobs) (us : List NamedUse) (gs : List Given) : Type 0 where
     pub meant : AreMeant p s named us gs
     pub alive : AreAlive s gs
     pub apart : AreApart gs
@@ -106,7 +109,7 @@ module _ (script : Script) (table : Table) (begun : ScriptState) (n : ℕ) (foun
     pub broken : (u : ScriptState) → all_broken gs u ≡ all_broken gives u
 
   -- What the job runs, for a kernel of the script.
-  pub record IsRunOf (p : Planner) (run : Run) (kernel : Kernel) : Type 0 where
+  pub record IsRunOf (run : Run) (kernel : Kernel) : Type 0 where
     pub source : Kernel
     pub is_source : slice_get script.kernels.items asked.kernel ≡ Some source
     pub copied : IsCopyFor asked.defer source kernel
@@ -118,7 +121,7 @@ module _ (script : Script) (table : Table) (begun : ScriptState) (n : ℕ) (foun
     pub step : run.cut.step ≡ step_of (numbers_of s asked.cut asked.defer).0 (numbers_of s asked.cut asked.defer).1
     pub parallel : run.parallel ≡ (source.parallel && is_none asked.waive.items)
 
-  module _ (step : IsStep script table n x) (p : Planner) (st : StandsAt p script table begun n found) (none : refusal g s x.act ≡ None) where
+  module _ (none : refusal g s x.act ≡ None) where
     pub is_schedule : IsScheduleOf g s x o
     is_schedule = schedules_are_accepted script step.accepted table n x o step.here refl none
 
@@ -129,7 +132,7 @@ module _ (script : Script) (table : Table) (begun : ScriptState) (n : ℕ) (foun
     views_few c =
         let few = view_numbers_are_few g (take n script.statements.items) c in
         let low = length-take n script.statements.items in
-        let lt = statements_few script table n x step in
+        let lt = statements_few step in
         omega arith
 
     pub waited_up : AreUpTo s.book.count waited
@@ -154,7 +157,7 @@ module _ (script : Script) (table : Table) (begun : ScriptState) (n : ℕ) (foun
     after_is : state_after script table n x ≡ t
     after_is = accepted_state g s x step.acts none ∙ is_schedule.effect_is
 
-    module _ (named : Jobs) (us : List NamedUse) (gs : List Given) (noted : IsNoted p named us gs) where
+    module _ (named : Jobs) (us : List NamedUse) (gs : List Given) (noted : IsNoted named us gs) where
       pub may_note_all : MayNoteAll us (state_of p.world.safety)
       may_note_all = may_note p s found named st.knows.containers us gs noted.meant noted.alive noted.apart (state_of p.world.safety)
           (λ c it has is_alive. let k = st.knows.containers.each c it has in (
@@ -193,7 +196,7 @@ module _ (script : Script) (table : Table) (begun : ScriptState) (n : ℕ) (foun
         q_is = λ i. record { world = world_is i; draft = d.started.rest i }
 
         known : IsKnown as_t
-        known = subst IsKnown (after_is ∙ t_is) (known_after script table n x step)
+        known = subst IsKnown (after_is ∙ t_is) (known_after step)
 
         count_is : count_of p.world.jobs ≡ s.book.count
         count_is = st.knows.jobs.count
@@ -366,7 +369,7 @@ module _ (script : Script) (table : Table) (begun : ScriptState) (n : ℕ) (foun
 
         -- ---- it stands
 
-        module _ (is : IsRunOf p run kernel) (plans : (y : Outline) → Agrees as_q g begun found y → IsPlanned y t (draft_of as_q)) where
+        module _ (is : IsRunOf run kernel) (plans : (y : Outline) → Agrees as_q g begun found y → IsPlanned y t (draft_of as_q)) where
           with_job_is : newly.IsWithJob p g begun n s found st q.world.values q.world.handles d.books.after.jobs d.books.after.safety kernels guards copies
               codes
               q.draft.segments q.draft.jobs q.draft.waits q.draft.ops q.draft.pieces
@@ -413,14 +416,14 @@ module _ (script : Script) (table : Table) (begun : ScriptState) (n : ℕ) (foun
             is_copy = ap (λ xs. slice_get xs d.job.kernel) kernels_now ∙ ap (λ (j : JobPlan). slice_get copies.items j.kernel) d.runs ∙ place.here;
             copied = is.copied;
             binds = ap (λ (j : JobPlan). j.binds.items) d.runs
-                ∙ is.binds (growing.outline_by p script table begun n s found st starts) (growing.agrees_by p script table begun n s found st starts as_found);
+                ∙ is.binds (growing.outline_by b starts) (growing.agrees_by b starts as_found);
             indexes = ap (λ (c : Cut). c.n) cut_is ∙ is.indexes;
             step = ap (λ (c : Cut). c.step) cut_is ∙ is.step;
             parallel = ap (λ (j : JobPlan). j.parallel) d.runs ∙ is.parallel;
             deps = λ j. d.later_are.are j ∙ (λ i. later (st.numbers.before i) (deps_is i) j);
           }
 
-          has_started : growing.HasStarted script table begun n found line home asked p q d.started.segment d.job waited
+          has_started : growing.HasStarted line home asked b q d.started.segment d.job waited
           has_started = record {
             store = ap (λ (k : Planner). k.world.store) q_is;
             segments = ap (λ (k : Planner). k.draft.segments.items) q_is ∙ segments_are;
@@ -435,8 +438,8 @@ module _ (script : Script) (table : Table) (begun : ScriptState) (n : ℕ) (foun
             job_is = job_of;
           }
 
-          pub goes_on : HasStepped script table begun n found p q x
-          goes_on = growing.stepped script table begun n found line home asked p q step none st d.started.segment d.job waited has_started
+          pub goes_on : HasStepped b q
+          goes_on = growing.stepped line home asked b q none d.started.segment d.job waited has_started
               (subst (λ u. Stands q g begun (suc n) u found) (sym (after_is ∙ t_is))
               (subst (λ k. Stands k g begun (suc n) as_t found) (sym q_is)
               (newly.with_job_stands p g begun n s found st q.world.values q.world.handles d.books.after.jobs d.books.after.safety kernels guards copies codes

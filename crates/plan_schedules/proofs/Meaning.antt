@@ -63,7 +63,7 @@ some_at [] k lt = absurd (omega arith)
 some_at (x ∷ xs) zero lt = (x, refl)
 some_at (x ∷ xs) (suc k) lt = some_at xs k (omega arith)
 
-module _ (p : Planner) (g : Setting) (begun : ScriptState) (m : ℕ) (s : ScriptState) (found : List ℕ) (st : Stands p g begun m s found) (after : Jobs) where
+module _ {p : Planner} {g : Setting} {begun : ScriptState} {m : ℕ} {s : ScriptState} {found : List ℕ} (st : Stands p g begun m s found) (after : Jobs) where
   -- why a use of what a value stands for is refused
   abbrev pub refused_value : states.Value → Bool → Option Blocked
   refused_value v writes =

@@ -47,7 +47,7 @@ module _ (b : Book) (uses : ℕ → Uses) (are : (c : ℕ) → AreUses b (uses c
       (λ a. needs_up xs ns h.1 j a)
       (or_cases (conflicting_in (state_of book x.0.slot.0).latest (writes_to x.1) j) (conflicting_with book xs j) e)
 
-module _ (p : Planner) (g : Setting) (begun : ScriptState) (n : ℕ) (s : ScriptState) (found : List ℕ) (st : Stands p g begun n s found) (after : Jobs) where
+module _ {p : Planner} {g : Setting} {begun : ScriptState} {n : ℕ} {s : ScriptState} {found : List ℕ} (st : Stands p g begun n s found) (after : Jobs) where
   pub needs_are : (us : List NamedUse) (gs : List Given) → AreMeant p s after us gs → AreAlive s gs
       → AreNeeds s.book s.uses p.world.safety (tags_of us) (needs gs)
   needs_are [] [] m a = tt

@@ -26,8 +26,8 @@ use Rattle.frame_core.proofs.Small.{some_is, get_below}
 use Rattle.plan_laws.specs.Accepting.{Schedule, accepted, deps_of, IsAcceptedSchedule, argument_binds, indexes_of, plain_kernel, IsPlannedJob}
 use Rattle.plan_laws.specs.Binds.{binds_by}
 use Rattle.plan_laws.specs.Planned.{Outline, IsPlanned}
-use Rattle.plan_laws.proofs.Accepting.{schedules_are_planned}
-use Rattle.plan_laws.proofs.PlainKernels.{plain_kernels_stand_in}
+use Rattle.plan_laws.proofs.Schedules.Accepting.{schedules_are_planned}
+use Rattle.plan_laws.proofs.Schedules.PlainKernels.{plain_kernels_stand_in}
 use Rattle.tree_laws.proofs.Checks.{same_kernels_are_checked}
 use Rattle.plan_schedules.specs.declared.accepting.Run.{Run}
 use Rattle.plan_state.specs.declared.state.Draft.{Draft}
@@ -39,7 +39,7 @@ use Rattle.plan_schedules.specs.Noting.{MayNoteAll}
 use Rattle.plan_state.specs.Stands.{Agrees, draft_of}
 use Rattle.plan_state.specs.Copies.{IsCopied}
 use Rattle.plan_schedules.specs.Starting.{IsPlainRun, numbers_by, undeferred}
-use Rattle.plan_state.specs.Steps.{state_at, IsStep, StandsAt, HasStepped}
+use Rattle.plan_state.specs.Steps.{state_at, IsBefore, HasStepped}
 use Rattle.plan_schedules.specs.Uses.{ForNames, IsUse}
 use Rattle.plan_state.proofs.CopiesMade.{plain_moved}
 use Rattle.plan_schedules.proofs.Arguments.{args_are, same_args_fit, same_job_binds}
@@ -56,7 +56,10 @@ use Rattle.plan_schedules.proofs.Taken.{IsScheduled, placed}
 use Rattle.plan_schedules.proofs.Texts as texts
 use Rattle.plan_schedules.proofs.Texts.{IsText, EachBelow, each_lower}
 
-module _ (script : Script) (table : Table) (begun : ScriptState) (n : ℕ) (found : List ℕ) (line : ℕ) (home : Box NewJob Global) (asked : NewJob) where
+module _ (line : ℕ) (home : Box NewJob Global) (asked : NewJob)
+    {script : Script} {table : Table} {p : Planner} (b : IsBefore script table p (texts.x line home asked)) where
+  open b use {begun, n, found, step, stands as st}
+
   abbrev g : Setting
   g = setting script table
 
@@ -64,10 +67,10 @@ module _ (script : Script) (table : Table) (begun : ScriptState) (n : ℕ) (foun
   s = state_at script table n
 
   abbrev x : Statement
-  x = texts.x script table n line home asked
+  x = texts.x line home asked
 
   abbrev pub o : Schedule
-  o = started.o script table begun n found line home (undeferred asked)
+  o = started.o line home (undeferred asked) b
 
   abbrev t : ScriptState
   t = accepted g s o
@@ -75,11 +78,11 @@ module _ (script : Script) (table : Table) (begun : ScriptState) (n : ℕ) (foun
   abbrev waited : Jobs
   waited = deps_of g s o
 
-  module _ (step : IsStep script table n x) (text : IsText script table n line home asked step) (p : Planner) (st : StandsAt p script table begun n found)
+  module _ (text : IsText line home asked step)
       (uses : List NamedUse) (named : Jobs) (are : ForNames (IsUse p.world named) text.source.params.items asked.args.items uses)
       (none : refusal g s x.act ≡ None) where
     accepted_as : IsAcceptedSchedule g s o
-    accepted_as = started.accepted_as script table begun n found line home (undeferred asked) step p st none
+    accepted_as = started.accepted_as line home (undeferred asked) b none
 
     abbrev ps : List Param
     ps = text.source.params.items
@@ -99,9 +102,9 @@ module _ (script : Script) (table : Table) (begun : ScriptState) (n : ℕ) (foun
         (subst (λ gs. first_alias [] gs ≡ None) (ap (λ k. given_args s (kernel_params k) asked.args.items ++ []) text.has)
         (no_cause_given s (is_parallel g asked.kernel) asked.auto (givens s (params_of g asked.kernel) asked.args.items None) asked.after.items none).alias))
 
-    noted : started.IsNoted script table begun n found line home (undeferred asked) p named uses gs
+    noted : started.IsNoted line home (undeferred asked) b named uses gs
     noted = record {
-      meant = uses_meant p g begun n s found st named ps asked.args.items uses are;
+      meant = uses_meant st named ps asked.args.items uses are;
       alive = alive;
       apart = apart;
       uses = λ job. ap (λ gs. with_uses s.uses job (needs gs)) (sym gives_are);
@@ -110,10 +113,10 @@ module _ (script : Script) (table : Table) (begun : ScriptState) (n : ℕ) (foun
     }
 
     pub may_note_all : MayNoteAll uses (state_of p.world.safety)
-    may_note_all = started.may_note_all script table begun n found line home (undeferred asked) step p st none named uses gs noted
+    may_note_all = started.may_note_all line home (undeferred asked) b none named uses gs noted
 
     pub waited_up : AreUpTo s.book.count waited
-    waited_up = started.waited_up script table begun n found line home (undeferred asked) step p st none
+    waited_up = started.waited_up line home (undeferred asked) b none
 
     module _ (mid : Draft) (new : Planner) (given : Run) (at : ℕ)
         (r : IsPlainRun script p.world asked.kernel asked.args.items asked.cut asked.waive.items given)
@@ -173,17 +176,17 @@ module _ (script : Script) (table : Table) (begun : ScriptState) (n : ℕ) (foun
           source_binds
           ∙ same_job_binds p text.source.parallel asked.waive.items 0 ps copy.copy.params.items asked.args.items copy.same.params
           ∙ ap (λ b. job_binds p.world b asked.waive.items 0 copy.copy.params.items asked.args.items) copy.same.parallel
-          ∙ args_are p g begun n s found st y a None copy.copy.parallel asked.waive.items 0 copy.copy.params.items asked.args.items names_below
+          ∙ args_are st y a None copy.copy.parallel asked.waive.items 0 copy.copy.params.items asked.args.items names_below
           (same_args_fit s ps copy.copy.params.items asked.args.items copy.same.params args_fit)
 
-      is_run : started.IsRunOf script table begun n found line home (undeferred asked) p run copy.copy
+      is_run : started.IsRunOf line home (undeferred asked) b run copy.copy
       is_run = record {
         source = text.source;
         is_source = text.has;
         copied = copy.same;
         binds = λ y a.
             source_binds
-            ∙ args_are p g begun n s found st y a None text.source.parallel asked.waive.items 0 ps asked.args.items names_below args_fit
+            ∙ args_are st y a None text.source.parallel asked.waive.items 0 ps asked.args.items names_below args_fit
             ∙ sym (append-nil (binds_by y.starts s ps (widths_from text.source.parallel asked.waive.items 0 ps) asked.args.items));
         indexes = r.cut_by.indexes ∙ ap (λ (c : ℕ × ℕ). c.0) (numbers_are s asked.cut);
         step = r.cut_by.step ∙ ap (λ (c : ℕ × ℕ). step_of c.0 c.1) (numbers_are s asked.cut);
@@ -191,11 +194,11 @@ module _ (script : Script) (table : Table) (begun : ScriptState) (n : ℕ) (foun
       }
 
       abbrev q : Planner
-      q = started.as_q script table begun n found line home (undeferred asked) step p st none named uses gs noted mid.copies_of p.draft.guards_of mid.kernels
+      q = started.as_q line home (undeferred asked) b none named uses gs noted mid.copies_of p.draft.guards_of mid.kernels
           mid.codes copy.copy run place new deps deps_are done
 
       back : (y : Outline) → Agrees q g begun found y → Agrees p g begun found y
-      back = started.agrees script table begun n found line home (undeferred asked) step p st none named uses gs noted
+      back = started.agrees line home (undeferred asked) b none named uses gs noted
           mid.copies_of p.draft.guards_of mid.kernels
           mid.codes copy.copy run place new deps deps_are done
 
@@ -203,7 +206,7 @@ module _ (script : Script) (table : Table) (begun : ScriptState) (n : ℕ) (foun
       planned_job y a =
           subst (λ ds. IsPlannedJob y (draft_of p) o (plain_kernel y.starts s o copy.copy) ds done.job)
           (copying.new_deps g s home asked text.source copy.copy text.has below copy.same)
-          (started.job_as script table begun n found line home (undeferred asked) step p st none named uses gs noted mid.copies_of p.draft.guards_of mid.kernels
+          (started.job_as line home (undeferred asked) b none named uses gs noted mid.copies_of p.draft.guards_of mid.kernels
           mid.codes copy.copy run place new deps deps_are done y a asked.cut r.cut_by (argument_binds y.starts s o copy.copy) (indexes_of s o copy.copy)
           (same_kernels_are_checked text.source copy.copy copy.same text.checked)
           (copy_binds y (back y a))
@@ -220,12 +223,11 @@ module _ (script : Script) (table : Table) (begun : ScriptState) (n : ℕ) (foun
           (schedules_are_planned y h s o copy.copy (plain_kernel y.starts s o copy.copy) (draft_of p) (draft_of q) done.started.segment done.job a.small
           st.knows.known (st.planned y (back y a)) accepted_now has_new (planned_job y a)
           (plain_kernels_stand_in y h s o copy.copy (draft_of p) done.job a.small (st.planned y (back y a)) accepted_now refl has_new (planned_job y a))
-          (started.starts_next script table begun n found line home (undeferred asked) step p st none named uses gs noted
-          mid.copies_of p.draft.guards_of mid.kernels
+          (started.starts_next line home (undeferred asked) b none named uses gs noted mid.copies_of p.draft.guards_of mid.kernels
           mid.codes copy.copy run place new deps deps_are done)
-          (started.closes script table begun n found line home (undeferred asked) step p st none named uses gs noted mid.copies_of p.draft.guards_of mid.kernels
+          (started.closes line home (undeferred asked) b none named uses gs noted mid.copies_of p.draft.guards_of mid.kernels
           mid.codes copy.copy run place new deps deps_are done))
 
-      pub goes_on : HasStepped script table begun n found p new x
-      goes_on = started.goes_on script table begun n found line home (undeferred asked) step p st none named uses gs noted mid.copies_of p.draft.guards_of
+      pub goes_on : HasStepped b new
+      goes_on = started.goes_on line home (undeferred asked) b none named uses gs noted mid.copies_of p.draft.guards_of
           mid.kernels mid.codes copy.copy run place new deps deps_are done is_run plans

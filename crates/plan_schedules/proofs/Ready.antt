@@ -38,7 +38,7 @@ use Rattle.plan_schedules.specs.Starting.{AreDeps, IsFull, IsInBooks, IsPlainRun
 use Rattle.plan_schedules.specs.declared.accepting.Run.{Run}
 use Rattle.plan_state.specs.Copies.{IsKernelChecked}
 use Rattle.plan_state.specs.Starts.{HasTakenJob, MayStart, MayTakeJob}
-use Rattle.plan_state.specs.Steps.{state_at, state_after, IsStep, StandsAt, HasStepped, PassesLimit}
+use Rattle.plan_state.specs.Steps.{state_at, state_after, IsBefore, HasStepped, PassesLimit}
 use Rattle.plan_schedules.specs.Uses.{AreNamesBelow, ForNames, IsUse, tags_of}
 use Rattle.plan_schedules.proofs.CauseNames.{AreNamed, uses_named, refusal_named}
 use Rattle.plan_schedules.proofs.Choosing.{AreAlive, refusal_is}
@@ -68,20 +68,21 @@ pub no_cause : (o : Option Cause) → ((c : Cause) → o ≡ Some c → ⊥) →
 no_cause None h = refl
 no_cause (Some c) h = absurd (h c refl)
 
-module _ (script : Script) (p : Planner) (line : ℕ) (home : Box NewJob Global) (asked : NewJob) where
+module _ (line : ℕ) (home : Box NewJob Global) (asked : NewJob) where
   abbrev pub x : Statement
-  x = texts.x script (λ c. None) 0 line home asked
+  x = texts.x line home asked
 
-  module _ (table : Rattle.frame_ast.specs.Orders.Table) (begun : ScriptState) (n : ℕ) (found : List ℕ) (step : IsStep script table n x)
-      (st : StandsAt p script table begun n found) where
+  module _ {script : Script} {table : Rattle.frame_ast.specs.Orders.Table} {p : Planner} (b : IsBefore script table p x) where
+    open b use {n, step, stands as st}
+
     abbrev g : Setting
     g = setting script table
 
     abbrev s : ScriptState
     s = state_at script table n
 
-    pub text : IsText script table n line home asked step
-    text = texts.text script table n line home asked step
+    pub text : IsText line home asked step
+    text = texts.text line home asked step
 
     pub kernel_below : asked.kernel < vec_len script.kernels
     kernel_below = let lt = get_below script.kernels.items asked.kernel text.source text.has in let len = script.kernels.ok.0 in omega arith
@@ -95,13 +96,13 @@ module _ (script : Script) (p : Planner) (line : ℕ) (home : Box NewJob Global)
         (let each = st.knows.each in let len = p.world.values.ok.0 in omega arith) asked.args.items text.below))
 
     pub handle_below : asked.handle < vec_len p.world.values
-    handle_below = within p g begun n s found st asked.handle text.handle_below
+    handle_below = within st asked.handle text.handle_below
 
     pub handles_low : vec_len p.world.handles < 2 ^ 32
-    handles_low = let few = st.numbers.handles_few in let len = p.world.handles.ok.0 in let low = statements_few script table n x step in omega arith
+    handles_low = let few = st.numbers.handles_few in let len = p.world.handles.ok.0 in let low = statements_few step in omega arith
 
     pub copies_low : vec_len p.draft.kernels < 2 ^ 32
-    copies_low = let few = st.numbers.kernels_few in let len = p.draft.kernels.ok.0 in let low = statements_few script table n x step in omega arith
+    copies_low = let few = st.numbers.kernels_few in let len = p.draft.kernels.ok.0 in let low = statements_few step in omega arith
 
     pub kernels_each : vec_len p.draft.copies_of ≡ vec_len script.kernels
     kernels_each = let e = st.kernels.each in let a = p.draft.copies_of.ok.0 in let b = script.kernels.ok.0 in omega arith
@@ -110,7 +111,7 @@ module _ (script : Script) (p : Planner) (line : ℕ) (home : Box NewJob Global)
     guards_each = let e = st.kernels.each_guard in let a = p.draft.guards_of.ok.0 in let b = script.kernels.ok.0 in omega arith
 
     pub after_below : (xs : List ℕ) → xs ≡ asked.after.items → All (λ n. n < vec_len p.world.values) xs
-    after_below xs e = subst (All (λ n. n < vec_len p.world.values)) (sym e) (λ k d lt. within p g begun n s found st (get_or asked.after.items k d)
+    after_below xs e = subst (All (λ n. n < vec_len p.world.values)) (sym e) (λ k d lt. within st (get_or asked.after.items k d)
         (text.after_below k d lt))
 
     pub named_is : (jobs : Jobs) (xs : List ℕ) → xs ≡ asked.after.items → ((j : ℕ) → jobs j ≡ jobs_by p.world.handles.items p.world.values.items xs j)
@@ -125,13 +126,13 @@ module _ (script : Script) (p : Planner) (line : ℕ) (home : Box NewJob Global)
         (named_among s st.knows.known asked.after.items))
 
     pub before_low : p.world.jobs_before ≤ count_of p.world.jobs
-    before_low = rooms.jobs_after script table p begun n s found st
+    before_low = rooms.jobs_after b
 
     pub room : count_of p.world.jobs ≢ MOST_JOBS → vec_len p.draft.jobs < MOST_JOBS
-    room = rooms.job_room script table p begun n s found st
+    room = rooms.job_room b
 
     pub pieces_low : p.draft.pieces ≤ MOST_PIECES * MOST_JOBS
-    pieces_low = rooms.few_pieces script table p begun n s found st
+    pieces_low = rooms.few_pieces b
 
     -- a draft has room for its job
     pub may_be_taken : (run : Run) (answer : JobAnswer) (deps : Jobs) (xs : List Arg) (ws : List ℕ) → count_of p.world.jobs ≢ MOST_JOBS
@@ -176,7 +177,7 @@ module _ (script : Script) (p : Planner) (line : ℕ) (home : Box NewJob Global)
       gs = given_args s text.source.params.items asked.args.items
 
       meant : AreMeant p s named uses gs
-      meant = uses_meant p g begun n s found st named text.source.params.items asked.args.items uses are
+      meant = uses_meant st named text.source.params.items asked.args.items uses are
 
       pub refusal_at : as_refused (refusal_by uses text.source.parallel asked.auto) ≡ refusal g s x.act
       refusal_at =
@@ -187,28 +188,28 @@ module _ (script : Script) (p : Planner) (line : ℕ) (home : Box NewJob Global)
 
       module _ (none : refusal g s x.act ≡ None) where
         alive : AreAlive s gs
-        alive = started.alive script table begun n found line home asked step text p st uses named are none
+        alive = started.alive line home asked b text uses named are none
 
         pub noted_up : AreUpTo (count_of p.world.jobs) (conflicting_with p.world.safety (tags_of uses))
         noted_up = subst (λ k. AreUpTo k (conflicting_with p.world.safety (tags_of uses))) (sym st.knows.jobs.count)
-            (needs_up s.book s.uses st.knows.known.uses p.world.safety (tags_of uses) (needs gs) (needs_are p g begun n s found st named uses gs meant alive))
+            (needs_up s.book s.uses st.knows.known.uses p.world.safety (tags_of uses) (needs gs) (needs_are st named uses gs meant alive))
 
         pub deps_is : (deps : Jobs) → AreDeps asked.auto named p.world.jobs p.world.safety (tags_of uses) deps
-            → deps ≡ deps_of g s (started.o script table begun n found line home asked)
+            → deps ≡ deps_of g s (started.o line home asked b)
         deps_is deps d =
-            deps_are p g begun n s found st named asked.auto uses gs meant alive deps d
+            deps_are st named asked.auto uses gs meant alive deps d
             ∙ ap (λ named. if asked.auto then both named (automatic s.book s.uses named (needs gs)) else named) named_are
             ∙ ap (λ gs. let named = jobs_named s asked.after.items in if asked.auto then both named (automatic s.book s.uses named (needs gs)) else named)
-            (sym (started.gives_are script table begun n found line home asked step text p st uses named are none))
+            (sym (started.gives_are line home asked b text uses named are none))
 
         pub deps_up : (deps : Jobs) → AreDeps asked.auto named p.world.jobs p.world.safety (tags_of uses) deps → AreUpTo (count_of p.world.jobs) deps
         deps_up deps d = subst (AreUpTo (count_of p.world.jobs)) (sym (deps_is deps d))
-            (subst (λ k. AreUpTo k (deps_of g s (started.o script table begun n found line home asked))) (sym st.knows.jobs.count)
-            (started.waited_up script table begun n found line home asked step text p st uses named are none))
+            (subst (λ k. AreUpTo k (deps_of g s (started.o line home asked b))) (sym st.knows.jobs.count)
+            (started.waited_up line home asked b text uses named are none))
 
         pub may_note : (us : List NamedUse) → us ≡ uses → MayNoteAll us (state_of p.world.safety)
         may_note us e = subst (λ us. MayNoteAll us (state_of p.world.safety)) (sym e)
-            (started.may_note_all script table begun n found line home asked step text p st uses named are none)
+            (started.may_note_all line home asked b text uses named are none)
 
         -- where there are all jobs already, the script has one more
         pub fails_so : (fault : PlanFault) → IsFull fault (count_of p.world.jobs) → PassesLimit fault (state_after script table n x)
@@ -225,12 +226,11 @@ module _ (script : Script) (p : Planner) (line : ℕ) (home : Box NewJob Global)
             → xs ≡ asked.args.items → ws ≡ asked.waive.items → us ≡ uses
             → AreDeps asked.auto named p.world.jobs p.world.safety (tags_of uses) deps
             → IsPlainRun script p.world asked.kernel xs asked.cut ws run → IsInBooks p.world w asked.handle us deps → IsStartOf p.world run deps answer
-            → HasTakenJob p.draft draft script line answer → HasStepped script table begun n found p (record { world = w; draft = draft }) x
+            → HasTakenJob p.draft draft script line answer → HasStepped b (record { world = w; draft = draft })
         accepted_on w draft run answer deps xs ws us e f u d r books starts took =
             let had = subst (λ us. IsInBooks p.world w asked.handle us deps) u books in
             let has = taken.has_job script line p w draft asked.handle run uses deps answer had starts took in
-            started.goes_on script table begun n found line home asked step text p st uses named are none has.copied (record { world = w; draft = draft }) run
-            has.place
+            started.goes_on line home asked b text uses named are none has.copied (record { world = w; draft = draft }) run has.place
             (subst (λ xs. IsPlainRun script p.world asked.kernel xs asked.cut asked.waive.items run) e
             (subst (λ ws. IsPlainRun script p.world asked.kernel xs asked.cut ws run) f r))
             (taken.has_copy script line p w draft asked.handle run uses deps answer had starts took false asked.kernel r.plain r.kernel_is)
@@ -249,10 +249,10 @@ module _ (script : Script) (p : Planner) (line : ℕ) (home : Box NewJob Global)
       pub refused_on : (w : World) (draft : Draft) (answer : JobAnswer) (cause : Cause) (k : Kernel)
           → slice_get script.kernels.items asked.kernel ≡ Some k → (us : List NamedUse) → us ≡ uses → Some cause ≡ refusal_by us k.parallel asked.auto
           → answer ≡ Refused cause.name cause.refusal → HasHandle p.world w asked.handle nobody
-          → HasTakenJob p.draft draft script line answer → HasStepped script table begun n found p (record { world = w; draft = draft }) x
+          → HasTakenJob p.draft draft script line answer → HasStepped b (record { world = w; draft = draft })
       refused_on w draft answer cause k h us e is says has took =
           let below = refusal_named (length g.names) us k.parallel asked.auto (subst (AreNamed (length g.names)) (sym e)
           (uses_named p named (length g.names) text.source.params.items asked.args.items uses are text.below)) cause (sym is) in
-          said_nobody script table begun n found x step (refused cause.refusal cause.name) p st (sym (refused_by k h us e (Some cause) is)) below
+          said_nobody b (refused cause.refusal cause.name) (sym (refused_by k h us e (Some cause) is)) below
           (record p { draft = draft }) w asked.handle refl refl refl (inr (λ c. refl))
           (taken.is_pushed script line p draft answer cause.name cause.refusal says took) has

@@ -7,14 +7,16 @@ use Rattle.std.proofs.lemmas.Grind.{div_ceil_times}
 use Rattle.job_base.specs.declared.limits.TheConstants.{MOST_PIECES}
 use Rattle.batch_cut.specs.Cuts.{count_of as pieces_in}
 use Rattle.frame_ast.specs.declared.script.Script.{Script}
-use Rattle.frame_ast.specs.Orders.{Table, setting}
+use Rattle.frame_ast.specs.declared.script.Statement.{Statement}
+use Rattle.frame_ast.specs.Orders.{Table}
 use Rattle.frame_ast.specs.States.{ScriptState}
 use Rattle.job_handle.specs.Books.{count_of}
 use Rattle.frame_core.specs.declared.plan.JobPlan.{JobPlan}
 use Rattle.frame_core.specs.Names.{pieces_of, pieces_before}
 use Rattle.plan_laws.specs.Planned.{IsPlanned}
 use Rattle.plan_state.specs.declared.state.Planner.{Planner}
-use Rattle.plan_state.specs.Stands.{Stands, draft_of}
+use Rattle.plan_state.specs.Stands.{draft_of}
+use Rattle.plan_state.specs.Steps.{state_at, IsBefore}
 use Rattle.plan_state.proofs.Outlining.{outline, agrees, jobs_are}
 
 few_parts : (n step : ℕ) → 1 ≤ step → n ≤ MOST_PIECES * step → pieces_in n step ≤ MOST_PIECES
@@ -39,8 +41,12 @@ all_few (x ∷ more) each =
     let rest = all_few more (λ j job at. each (suc j) job at) in
     omega arith
 
-module _ (script : Script) (table : Table) (p : Planner) (begun : ScriptState) (n : ℕ) (s : ScriptState) (found : List ℕ)
-    (st : Stands p (setting script table) begun n s found) where
+module _ {script : Script} {table : Table} {p : Planner} {x : Statement} (b : IsBefore script table p x) where
+  open b use {begun, n, found, stands as st}
+
+  abbrev s : ScriptState
+  s = state_at script table n
+
   planned : IsPlanned (outline p script table begun n s found st) s (draft_of p)
   planned = st.planned (outline p script table begun n s found st) (agrees p script table begun n s found st)
 

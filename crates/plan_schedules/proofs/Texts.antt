@@ -38,7 +38,7 @@ each_lower n m le (Name k ∷ as_) h = (let lt = h.0 in omega arith, each_lower 
 each_lower n m le (Number z ∷ as_) h = (tt, each_lower n m le as_ h.1)
 
 -- the names of a statement, and of its arguments
-module _ (script : Script) (table : Table) (n : ℕ) (x : Statement) (step : IsStep script table n x) (defer : Option (ℕ × ℕ)) where
+module _ {script : Script} {table : Table} {n : ℕ} {x : Statement} (step : IsStep script table n x) (defer : Option (ℕ × ℕ)) where
   abbrev pub its_names : ℕ → Names
   its_names made = record { kinds = step.accepted.kinds; made = made }
 
@@ -56,21 +56,21 @@ module _ (script : Script) (table : Table) (n : ℕ) (x : Statement) (step : IsS
       (ap suc more.0, (one a parts.0, more.1))
     where
       one : (a : Arg) → arg_fits (its_names made) defer p a ≡ true → IsNameBelow its_many a
-      one (Name m) h = used_below script table n x step made m (kinds_for p.kind (is_deferred defer m)) h
+      one (Name m) h = used_below step made m (kinds_for p.kind (is_deferred defer m)) h
       one (Number z) h = tt
 
   pub all_below_names : (made : ℕ) (ns : List ℕ) → all_used (its_names made) ns ≡ true → (k d : ℕ) → k < length ns → get_or ns k d < its_many
   all_below_names made [] e k d lt = absurd (omega arith)
-  all_below_names made (m ∷ ns) e zero d lt = used_below script table n x step made m (kind.Handle ∷ [])
+  all_below_names made (m ∷ ns) e zero d lt = used_below step made m (kind.Handle ∷ [])
       (and_parts (uses (its_names made) m (kind.Handle ∷ [])) (list_all (λ n. uses (its_names made) n (kind.Handle ∷ [])) ns) e).0
   all_below_names made (m ∷ ns) e (suc k) d lt = all_below_names made ns
       (and_parts (uses (its_names made) m (kind.Handle ∷ [])) (list_all (λ n. uses (its_names made) n (kind.Handle ∷ [])) ns) e).1 k d (omega arith)
 
-module _ (script : Script) (table : Table) (n line : ℕ) (home : Box NewJob Global) (asked : NewJob) where
+module _ (line : ℕ) (home : Box NewJob Global) (asked : NewJob) where
   abbrev pub x : Statement
   x = record { line = line; act = Scheduled (in_box home (undeferred asked)) }
 
-  module _ (step : IsStep script table n x) where
+  module _ {script : Script} {table : Table} {n : ℕ} (step : IsStep script table n x) where
     abbrev names : ℕ → Names
     names made = record { kinds = step.accepted.kinds; made = made }
 
@@ -91,11 +91,11 @@ module _ (script : Script) (table : Table) (n line : ℕ) (home : Box NewJob Glo
 
     pub text : IsText
     text =
-        let fit = fits_at script table n x step in
+        let fit = fits_at step in
         let parts = and_parts (makes (names fit.made) asked.handle kind.Handle)
         (schedule_fits (names fit.made) (slice_get script.kernels.items asked.kernel) asked.args.items asked.cut None asked.waive.items asked.after.items)
         fit.fits in
-        by fit.made (made_below script table n x step fit.made asked.handle kind.Handle parts.0) (slice_get script.kernels.items asked.kernel) refl parts.1
+        by fit.made (made_below step fit.made asked.handle kind.Handle parts.0) (slice_get script.kernels.items asked.kernel) refl parts.1
       where
         by : (made : ℕ) → asked.handle < many → (o : Option Kernel) → slice_get script.kernels.items asked.kernel ≡ o
             → schedule_fits (names made) o asked.args.items asked.cut None asked.waive.items asked.after.items ≡ true → IsText
@@ -106,7 +106,7 @@ module _ (script : Script) (table : Table) (n line : ℕ) (home : Box NewJob Glo
             let c = and_parts (cut_fits asked.cut && true) _ a.1 in
             let f = and_parts (cut_fits asked.cut) true c.0 in
             let d = and_parts _ (all_used (names made) asked.after.items) c.1 in
-            let below = args_below script table n x step None made k.params.items asked.args.items b.0 in
+            let below = args_below step None made k.params.items asked.args.items b.0 in
             let checked = step.accepted.kernels asked.kernel k at in
             let few = leb-true (length k.params.items) MOST_PARAMS checked.count in
             record {
@@ -119,5 +119,5 @@ module _ (script : Script) (table : Table) (n line : ℕ) (home : Box NewJob Glo
               below = below.1;
               one = b.1;
               cut_fit = f.0;
-              after_below = all_below_names script table n x step None made asked.after.items d.1;
+              after_below = all_below_names step None made asked.after.items d.1;
             }

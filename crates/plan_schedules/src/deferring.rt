@@ -43,8 +43,8 @@ pub(crate) fn schedule_deferred(
     defer: (u32, u32),
 ) -> Result<JobAnswer, PlanFault>
     // The statement has its job in a box, whichever that is.
-    requires ready { (line : ℕ) × (home : Box NewJob Global) × (p : Planner)
-        × IsBefore script.now (record p { world = world.old }) (deferring line home job.now job.now.cut defer) }
+    requires ready { (line : ℕ) × (home : Box NewJob Global) × (p : Planner) × (table : Table)
+        × IsBefore script.now table (record p { world = world.old }) (deferring line home job.now job.now.cut defer) }
 
     ensures answers { IfOk result (λ answer. (line : ℕ) (home : Box NewJob Global) (table : Table)
         → SchedulesIn script.now table world.old world.new (deferring line home job.now job.now.cut defer) answer) }
@@ -65,8 +65,8 @@ fn schedule_by_list(
     list: u32,
     batch: u32,
 ) -> Result<JobAnswer, PlanFault>
-    requires ready { (line : ℕ) × (home : Box NewJob Global) × (p : Planner)
-        × IsBefore script.now (record p { world = world.old }) (deferring line home job.now None (list, batch)) }
+    requires ready { (line : ℕ) × (home : Box NewJob Global) × (p : Planner) × (table : Table)
+        × IsBefore script.now table (record p { world = world.old }) (deferring line home job.now None (list, batch)) }
 
     ensures answers { IfOk result (λ answer. (line : ℕ) (home : Box NewJob Global) (table : Table)
         → SchedulesIn script.now table world.old world.new (deferring line home job.now None (list, batch)) answer) }

@@ -27,8 +27,8 @@ pub fn schedule(
     gathered: &mut Gathered,
 ) -> Result<JobAnswer, PlanFault>
     // The statement has its job in a box, whichever that is.
-    requires ready { (line : ℕ) × (home : Box NewJob Global) × (p : Planner)
-        × IsBefore script.now (record p { world = world.old }) (asking line home job.now) }
+    requires ready { (line : ℕ) × (home : Box NewJob Global) × (p : Planner) × (table : Table)
+        × IsBefore script.now table (record p { world = world.old }) (asking line home job.now) }
 
     ensures answers { IfOk result (λ answer. (line : ℕ) (home : Box NewJob Global) (table : Table)
         → SchedulesIn script.now table world.old world.new (asking line home job.now) answer) }

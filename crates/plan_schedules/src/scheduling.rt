@@ -44,8 +44,8 @@ pub(crate) fn schedule_plain(
     gathered: &mut Gathered,
 ) -> Result<JobAnswer, PlanFault>
     // The statement has its job in a box, whichever that is.
-    requires ready { (line : ℕ) × (home : Box NewJob Global) × (p : Planner)
-        × IsBefore script.now (record p { world = world.old }) (scheduling line home job.now) }
+    requires ready { (line : ℕ) × (home : Box NewJob Global) × (p : Planner) × (table : Table)
+        × IsBefore script.now table (record p { world = world.old }) (scheduling line home job.now) }
 
     ensures answers { IfOk result (λ answer. (line : ℕ) (home : Box NewJob Global) (table : Table)
         → SchedulesIn script.now table world.old world.new (scheduling line home job.now) answer) }

@@ -52,9 +52,9 @@ there (x ∷ xs) zero lt = (x, refl)
 there (x ∷ xs) (suc k) lt = there xs k (omega arith)
 
 -- what names stand for is there, as the code counts
-pub are_there : (p : Planner) (g : Setting) (begun : ScriptState) (n : ℕ) (s : ScriptState) (found : List ℕ) → Stands p g begun n s found
+pub are_there : {p : Planner} {g : Setting} {begun : ScriptState} {n : ℕ} {s : ScriptState} {found : List ℕ} → Stands p g begun n s found
     → AreThere (vec_len p.world.containers) (vec_len p.world.handles) p.world.values.items
-are_there p g begun n s found st k v h =
+are_there {p} st k v h =
     subst (λ made. IsThere made (vec_len p.world.handles) v) (sym p.world.containers.ok.0)
     (subst (λ handles. IsThere (length p.world.containers.items) handles v) (sym p.world.handles.ok.0) (st.knows.names.there k v h))
 

@@ -45,7 +45,7 @@ viewed start (Items cap xs) u = refl
 viewed start (Pairs cap ps) u = absurd cc
 viewed start (Entries room es) u = absurd cc
 
-module _ (p : Planner) (g : Setting) (begun : ScriptState) (n : ℕ) (s : ScriptState) (found : List ℕ) (st : Stands p g begun n s found) (x : Outline)
+module _ {p : Planner} {g : Setting} {begun : ScriptState} {n : ℕ} {s : ScriptState} {found : List ℕ} (st : Stands p g begun n s found) (x : Outline)
     (a : Agrees p g begun found x) where
   bind_here : (c : ℕ) (f : Bind → Bind) → c < length p.world.containers.items
       → bind_in p.world.containers.items c f ≡ f (bind_of (x.starts (s.range c)) (s.contents c))

@@ -27,7 +27,7 @@ use Rattle.plan_laws.specs.Ledgers.{later}
 use Rattle.plan_state.specs.declared.state.Planner.{Planner}
 use Rattle.plan_state.specs.Growth.{given_by, given_in, given_from, given_so_far, span_at, span_unless, span_by, greatest_end, waits_in, Schedules, SchedulesUnless, deps_after, Awaits, AwaitsUnless, HasWaited, rising_jobs, unless_none, waits_of, waits_by, newly_in, newly_completed, Grows}
 use Rattle.plan_state.specs.Stands.{Stands}
-use Rattle.plan_state.specs.Steps.{state_at, state_after, IsStep, HasStepped}
+use Rattle.plan_state.specs.Steps.{state_at, state_after, IsBefore, HasStepped}
 
 -- WHAT IS GIVEN
 
@@ -269,29 +269,31 @@ module _ (g : Setting) (s : ScriptState) (x : Statement) (starts : Starts) (befo
 
 -- A STATEMENT THAT ADDS NOTHING goes on.
 
-module _ (script : Script) (table : Table) (begun : ScriptState) (n : ℕ) (found : List ℕ) (old new : Planner) (x : Statement) (step : IsStep script table n x)
-    (stands : Stands new (setting script table) begun (suc n) (state_after script table n x) found) where
+module _ {script : Script} {table : Table} {old : Planner} {x : Statement} (b : IsBefore script table old x) (new : Planner)
+    (stands : Stands new (setting script table) b.begun (suc b.n) (state_after script table b.n x) b.found) where
+  open b use {begun, n, found, step}
+
   abbrev g : Setting
   g = setting script table
 
   abbrev s : ScriptState
   s = state_at script table n
 
-  stepped : ((starts : Starts) → Grows g s x starts begun.book.count old new) → HasStepped script table begun n found old new x
+  stepped : ((starts : Starts) → Grows g s x starts begun.book.count old new) → HasStepped b new
   stepped grows = record {
     more = [];
     stands = subst (Stands new g begun (suc n) (state_after script table n x)) (sym (append-nil found)) stands;
     grows = λ starts same. grows starts;
   }
 
-  pub still_steps : IsStill g s x begun.book.count old new → IsPlain g x.act → HasStepped script table begun n found old new x
+  pub still_steps : IsStill g s x begun.book.count old new → IsPlain g x.act → HasStepped b new
   still_steps still plain = stepped (λ starts. plain_grows g s x starts begun.book.count old new still plain)
 
   module _ (quiet : IsQuiet old new) where
-    pub plain_steps : IsPlain g x.act → (state_after script table n x).book.completed ≡ s.book.completed → HasStepped script table begun n found old new x
+    pub plain_steps : IsPlain g x.act → (state_after script table n x).book.completed ≡ s.book.completed → HasStepped b new
     plain_steps plain completed = still_steps (quiet_still g s x begun.book.count old new quiet completed) plain
 
-    pub refused_steps : (r : Refused) → refusal g s x.act ≡ Some r → HasStepped script table begun n found old new x
+    pub refused_steps : (r : Refused) → refusal g s x.act ≡ Some r → HasStepped b new
     refused_steps r e =
         let book = (refused_changes_little g s x r step.acts e).book in
         stepped (λ starts. refused_grows g s x starts begun.book.count old new

@@ -17,7 +17,7 @@ use Rattle.frame_ast.proofs.NameKinds.{names_keep_their_kinds}
 use Rattle.frame_ast.proofs.Naming.{is_used, FitsThere, fits_there}
 use Rattle.frame_core.proofs.Small.{some_is, none_some, get_below}
 use Rattle.plan_laws.specs.Printing.{IsUsable}
-use Rattle.plan_laws.proofs.Usable.{names_are_usable}
+use Rattle.plan_laws.proofs.Statements.Usable.{names_are_usable}
 use Rattle.plan_state.specs.declared.state.Planner.{Planner}
 use Rattle.plan_state.specs.Stands.{Stands}
 use Rattle.plan_state.specs.Steps.{state_at, state_after, IsStep}
@@ -38,7 +38,7 @@ pub next_state : (script : Script) (table : Table) (n : ℕ) (x : Statement) →
     → state_after script table n x ≡ state_at script table (suc n)
 next_state script table n x at = one_more (setting script table) script.statements.items n x at_start at
 
-module _ (script : Script) (table : Table) (n : ℕ) (x : Statement) (step : IsStep script table n x) where
+module _ {script : Script} {table : Table} {n : ℕ} {x : Statement} (step : IsStep script table n x) where
   pub known_after : IsKnown (state_after script table n x)
   known_after = subst IsKnown (sym (next_state script table n x step.here)) (jobs_are_known (setting script table) (take (suc n) script.statements.items))
 
@@ -85,9 +85,9 @@ module _ (script : Script) (table : Table) (n : ℕ) (x : Statement) (step : IsS
       names_are_usable step.accepted.kinds (state_at script table n) name u.kind holds_kinds u.at alive
 
 -- a name of the script is one of the planner's
-pub within : (p : Planner) (g : Setting) (begun : ScriptState) (n : ℕ) (s : ScriptState) (found : List ℕ) → Stands p g begun n s found → (name : ℕ)
+pub within : {p : Planner} {g : Setting} {begun : ScriptState} {n : ℕ} {s : ScriptState} {found : List ℕ} → Stands p g begun n s found → (name : ℕ)
     → name < length g.names → name < vec_len p.world.values
-within p g begun n s found st name lt = let len = p.world.values.ok.0 in let e = st.knows.each in omega arith
+within {p} st name lt = let len = p.world.values.ok.0 in let e = st.knows.each in omega arith
 
 -- no more ranges were found
 pub no_more : (q : Planner) (g : Setting) (begun : ScriptState) (n : ℕ) (t : ScriptState) (found : List ℕ) → Stands q g begun n t found

@@ -37,7 +37,7 @@ use Rattle.frame_core.specs.Names.{name_of}
 use Rattle.frame_core.proofs.Small.{get_below}
 use Rattle.plan_laws.specs.Binds.{bind_of}
 use Rattle.plan_laws.specs.Planned.{Outline, IsPlanned, Adds}
-use Rattle.plan_laws.proofs.Refusing.{refusals_are_planned}
+use Rattle.plan_laws.proofs.Statements.Refusing.{refusals_are_planned}
 use Rattle.plan_state.specs.declared.state.Value.{Value}
 use Rattle.plan_state.specs.declared.state.Value.TheVariants.{Dead, Jobs as Handles}
 use Rattle.plan_state.specs.declared.state.Container.{Container}
@@ -47,7 +47,7 @@ use Rattle.plan_state.specs.Accesses.{IsPushed, IsRenamed, HasHandle}
 use Rattle.job_handle.specs.declared.handle.Handle.{Handle}
 use Rattle.plan_state.specs.Growth.{given_from, given_in}
 use Rattle.plan_state.specs.Stands.{tag_of, IsThere, AreNames, IsContainer, IsOwned, IsCopy, IsGuardedCopy, Agrees, Stands, draft_of}
-use Rattle.plan_state.specs.Steps.{state_at, IsStep, StandsAt, HasStepped}
+use Rattle.plan_state.specs.Steps.{state_at, IsBefore, HasStepped}
 use Rattle.plan_state.proofs.Naming.{set_long, IsNamed, same_names, renamed_names, handle_names, handles_more}
 use Rattle.plan_state.proofs.Quiet.{IsPlain, IsQuiet, given_one, plain_steps, refused_steps}
 use Rattle.plan_state.proofs.Reaching.{long, known_after}
@@ -223,14 +223,14 @@ module _ (p : Planner) (g : Setting) (begun : ScriptState) (n : ℕ) (s : Script
       }
 
 -- A planner stands for the state afterwards where the plan so far does.
-pub restated : (p q : Planner) (g : Setting) (begun : ScriptState) (n : ℕ) (s t : ScriptState) (found : List ℕ)
+pub restated : {p q : Planner} {g : Setting} {begun : ScriptState} {n : ℕ} {s t : ScriptState} {found : List ℕ}
     → Stands p g begun n s found
     → IsRestated p q s t
     → IsKnown t
     → AreNames q.world.values.items q.world.handles.items (length p.world.containers.items) t
     → ((x : Outline) → Agrees p g begun found x → IsPlanned x t (draft_of q))
     → Stands q g begun (suc n) t found
-restated p q g begun n s t found st r known named planned =
+restated {p} {q} {g} {begun} {n} {s} {t} {found} st r known named planned =
     let as_q : Planner = record p {
       world = record p.world {
         values = q.world.values;
@@ -286,7 +286,7 @@ changed_fields p q values handles safety passing ops e =
     e ∙ ap f (sym e)
 
 -- where the safety book, view numbers and contents are as they were
-pub calm : (p q : Planner) (g : Setting) (begun : ScriptState) (n : ℕ) (s t : ScriptState) (found : List ℕ)
+pub calm : {p q : Planner} {g : Setting} {begun : ScriptState} {n : ℕ} {s t : ScriptState} {found : List ℕ}
     → Stands p g begun n s found
     → q ≡ record p {
       world = record p.world { values = q.world.values; handles = q.world.handles; safety = q.world.safety; passing = q.world.passing };
@@ -301,7 +301,7 @@ pub calm : (p q : Planner) (g : Setting) (begun : ScriptState) (n : ℕ) (s t : 
     → length q.world.handles.items ≤ suc (length p.world.handles.items)
     → length q.draft.ops.items ≤ suc (length p.draft.ops.items)
     → IsRestated p q s t
-calm p q g begun n s t found st planner state safety view contents passing values handles ops = record {
+calm {p} {q} {g} {begun} {n} {s} {t} {found} st planner state safety view contents passing values handles ops = record {
   planner = planner;
   state = state;
   passing = passing;
@@ -411,8 +411,7 @@ pub refused_stands : (p q : Planner) (g : Setting) (begun : ScriptState) (n : �
     → AreNames q.world.values.items q.world.handles.items (length p.world.containers.items) (act g s x)
     → Stands q g begun (suc n) (act g s x) found
 refused_stands p q g begun n s found x r st pass refused below restates ops known named =
-    restated p q g begun n s (act g s x) found st restates known named
-    (λ x_ a. refusals_are_planned x_ a.small g s x r r.name (draft_of p) (draft_of q) (st.planned x_ a) pass refused
+    restated st restates known named (λ x_ a. refusals_are_planned x_ a.small g s x r r.name (draft_of p) (draft_of q) (st.planned x_ a) pass refused
     (name_short g x_ r.name a.names below) (name_is g x_ r.name a.names) (adds_op p q (say_op x r) restates.planner ops))
 
 -- what it makes of names
@@ -437,26 +436,27 @@ like_views : (g : Setting) (x : Statement) (r : Refused) (s t : ScriptState) →
 like_views g x r s t h none = λ i c. h.views c (none_broken r x.act s none c) i
 
 -- A refused statement of an accepted script, whose line was pushed.
-module _ (script : Script) (table : Table) (begun : ScriptState) (n : ℕ) (found : List ℕ) (x : Statement) (step : IsStep script table n x) (r : Refused) where
+module _ {script : Script} {table : Table} {p : Planner} {x : Statement} (b : IsBefore script table p x) (r : Refused) where
+  open b use {begun, n, found, step, stands as st}
+
   abbrev g : Setting
   g = setting script table
 
   abbrev s : ScriptState
   s = state_at script table n
 
-  module _ (p : Planner) (st : StandsAt p script table begun n found) (refused : refusal g s x.act ≡ Some r) (below : r.name < length g.names) where
+  module _ (refused : refusal g s x.act ≡ Some r) (below : r.name < length g.names) where
     like : IsLikeBefore g x r s (act g s x)
     like = refused_changes_little g s x r step.acts refused
 
     -- what a planner after it stands for
     abbrev Onward : Planner → Type 0
-    Onward q = HasStepped script table begun n found p q x
+    Onward q = HasStepped b q
 
     onward : (q : Planner) → IsRestated p q s (act g s x) → q.draft.ops.items ≡ p.draft.ops.items ++ say_op x r ∷ []
         → AreNames q.world.values.items q.world.handles.items (length p.world.containers.items) (act g s x) → Onward q
     onward q restates ops named =
-        refused_steps script table begun n found p q x step
-        (refused_stands p q g begun n s found x r st step.acts refused below restates ops (known_after script table n x step) named)
+        refused_steps b q (refused_stands p q g begun n s found x r st step.acts refused below restates ops (known_after step) named)
         (quiet_restated p q s (act g s x) restates (given_one p.draft.ops.items q.draft.ops.items (say_op x r) ops refl))
         r refused
 
@@ -469,8 +469,7 @@ module _ (script : Script) (table : Table) (begun : ScriptState) (n : ℕ) (foun
         let values = ap (λ (k : Planner). k.world.values.items) is in
         let handles = ap (λ (k : Planner). k.world.handles.items) is in
         let ops = ap (λ (k : Planner). k.draft.ops.items) is ∙ i.ops in
-        onward q
-        (calm p q g begun n s (act g s x) found st planner (like_state g x r s (act g s x) like) (ap (λ (k : Planner). k.world.safety) is)
+        onward q (calm st planner (like_state g x r s (act g s x) like) (ap (λ (k : Planner). k.world.safety) is)
         (like_views g x r s (act g s x) like none) like.contents
         (ap (λ (k : Planner). k.world.passing) is ∙ sym (like.passing ∙ passed))
         (ap length values) (let l = ap length handles in omega arith) (one_op_more p.draft.ops.items q.draft.ops.items (say_op x r) ops))
@@ -498,8 +497,7 @@ module _ (script : Script) (table : Table) (begun : ScriptState) (n : ℕ) (foun
         let values = e.values ∙ ap (λ (k : Planner). slice_set k.world.values.items name Dead) i.rest in
         let handles = ap (λ (k : Planner). k.world.handles.items) is in
         let ops = ap (λ (k : Planner). k.draft.ops.items) is ∙ i.ops in
-        onward q
-        (calm p q g begun n s (act g s x) found st planner (like_state g x r s (act g s x) like) (ap (λ (k : Planner). k.world.safety) is)
+        onward q (calm st planner (like_state g x r s (act g s x) like) (ap (λ (k : Planner). k.world.safety) is)
         (like_views g x r s (act g s x) like none) like.contents
         (ap (λ (k : Planner). k.world.passing) is ∙ st.numbers.passing ∙ step.acts ∙ sym (like.passing ∙ passed))
         (ap length values ∙ set_long p.world.values.items name Dead) (let l = ap length handles in omega arith)
@@ -526,8 +524,7 @@ module _ (script : Script) (table : Table) (begun : ScriptState) (n : ℕ) (foun
         let named = like_named g x r s (act g s x) name (states.Handle nobody) like made lost in
         let grown = (handles_more m.world w (length p.world.containers.items) s (act g s x) name nobody was e named).1 in
         let as_many = ap (λ (k : Planner). length k.world.handles.items) i.rest in
-        onward q
-        (calm p q g begun n s (act g s x) found st planner (like_state g x r s (act g s x) like) (ap (λ (k : Planner). k.world.safety) is)
+        onward q (calm st planner (like_state g x r s (act g s x) like) (ap (λ (k : Planner). k.world.safety) is)
         (like_views g x r s (act g s x) like none) like.contents
         (ap (λ (k : Planner). k.world.passing) is ∙ st.numbers.passing ∙ step.acts ∙ sym (like.passing ∙ passed))
         (ap length e.values ∙ set_long m.world.values.items name (Handles e.place) ∙ ap (λ (k : Planner). length k.world.values.items) i.rest)
@@ -542,7 +539,7 @@ pub accepted_state : (g : Setting) (s : ScriptState) (x : Statement) → s.passi
 accepted_state g s x pass none = ap (λ n. act_or_pass n g s x) pass ∙ ap (λ o. decided o g s x) none
 
 -- One operation was pushed, and contents may have changed that keep their form.
-pub pushed_restates : (p q : Planner) (op : Op) (g : Setting) (begun : ScriptState) (n : ℕ) (s t : ScriptState) (found : List ℕ)
+pub pushed_restates : {p q : Planner} {op : Op} {g : Setting} {begun : ScriptState} {n : ℕ} {s t : ScriptState} {found : List ℕ}
     → Stands p g begun n s found
     → IsPushed p q op
     → t ≡ record s { values = t.values; contents = t.contents; view = t.view; refused = t.refused; passing = t.passing; lines = t.lines }
@@ -550,7 +547,7 @@ pub pushed_restates : (p q : Planner) (op : Op) (g : Setting) (begun : ScriptSta
     → t.view ≡ s.view
     → ((c start : ℕ) → c < s.made → bind_of start (t.contents c) ≡ bind_of start (s.contents c))
     → IsRestated p q s t
-pushed_restates p q op g begun n s t found st i state passing view form =
+pushed_restates {p} {q} {op} {g} {begun} {n} {s} {t} {found} st i state passing view form =
     let handles = ap (λ (k : Planner). length k.world.handles.items) i.rest in
     record {
       planner = changed_fields p q p.world.values p.world.handles p.world.safety p.world.passing q.draft.ops i.rest;
@@ -572,27 +569,23 @@ pushed_names p q op made s t i values was =
     (same_names p.world.values.items p.world.handles.items made s t values was)
 
 -- An accepted statement of an accepted script that takes no words and starts no job goes on where the plan so far does.
-pub accepted_on : (script : Script) (table : Table) (begun : ScriptState) (n : ℕ) (found : List ℕ) (x : Statement)
-    → IsStep script table n x
+pub accepted_on : {script : Script} {table : Table} {p : Planner} {x : Statement} (b : IsBefore script table p x)
     → let g = setting script table in
-    let s = state_at script table n in
+    let s = state_at script table b.n in
     let t = effect g x.line s x.act in
-    (p q : Planner)
-    → Stands p g begun n s found
+    (q : Planner)
     → refusal g s x.act ≡ None
     → IsPlain g x.act
     → given_in q.draft.ops.items ≡ given_in p.draft.ops.items
     → IsRestated p q s t
     → AreNames q.world.values.items q.world.handles.items (length p.world.containers.items) t
-    → ((y : Outline) → Agrees p g begun found y → IsPlanned y t (draft_of q))
-    → HasStepped script table begun n found p q x
-accepted_on script table begun n found x step p q st none plain same restates named planned =
+    → ((y : Outline) → Agrees p g b.begun b.found y → IsPlanned y t (draft_of q))
+    → HasStepped b q
+accepted_on {script} {table} {p} {x} b q none plain same restates named planned =
     let g = setting script table in
-    let s = state_at script table n in
+    let s = state_at script table b.n in
     let t = effect g x.line s x.act in
-    let is = accepted_state g s x step.acts none in
-    plain_steps script table begun n found p q x step
-    (subst (λ u. Stands q g begun (suc n) u found) (sym is)
-    (restated p q g begun n s t found st restates (subst IsKnown is (known_after script table n x step)) named planned))
-    (quiet_restated p q s t restates same)
+    let is = accepted_state g s x b.step.acts none in
+    plain_steps b q (subst (λ u. Stands q g b.begun (suc b.n) u b.found) (sym is)
+    (restated b.stands restates (subst IsKnown is (known_after b.step)) named planned)) (quiet_restated p q s t restates same)
     plain (ap (λ (u : ScriptState). u.book.completed) (is ∙ restates.state))

@@ -18,9 +18,10 @@ use Rattle.plan_state.specs.declared.state.Value.TheVariants.{Dead, Whole, Slice
 use Rattle.plan_state.specs.declared.state.Container.{Container}
 use Rattle.plan_state.specs.declared.state.Planner.{Planner}
 use Rattle.plan_state.specs.declared.state.World.{World}
+use Rattle.frame_ast.specs.declared.script.Script.{Script}
 use Rattle.frame_ast.specs.declared.script.Statement.{Statement}
 use Rattle.frame_ast.specs.Checks.{refusal}
-use Rattle.frame_ast.specs.Orders.{Setting, setting}
+use Rattle.frame_ast.specs.Orders.{Table, Setting, setting}
 use Rattle.frame_ast.specs.Refusals.{access}
 use Rattle.frame_ast.specs.Schedules.{need_of}
 use Rattle.frame_ast.specs.States.{ScriptState, is_alive}
@@ -28,7 +29,7 @@ use Rattle.safety_handle.specs.declared.book.SafetyBook.{SafetyBook}
 use Rattle.safety_handle.specs.Checks.{IsAnswer}
 use Rattle.safety_handle.specs.Entries.{state_of}
 use Rattle.plan_state.specs.Stands.{tag_of, IsThere, Knows}
-use Rattle.plan_state.specs.Steps.{state_at, AtStatement}
+use Rattle.plan_state.specs.Steps.{state_at, IsBefore}
 
 abbrev pub tag_by : Option ℕ → Option Container → Option Tag
 tag_by view None = None
@@ -156,8 +157,8 @@ IsGone w name answer = (g : Setting) (s : ScriptState) (found : List ℕ)
 
 -- An answer is the refusal of a statement, which names this name.
 abbrev pub IsRefusal : Planner → Statement → ℕ → Option Refusal → Type 0
-IsRefusal p x name answer = AtStatement p x (λ script table begun n found.
-    refused_as answer name ≡ refusal (setting script table) (state_at script table n) x.act)
+IsRefusal p x name answer = (script : Script) (table : Table) (b : IsBefore script table p x)
+    → refused_as answer name ≡ refusal (setting script table) (state_at script table b.n) x.act
 
 -- how many elements an array's words hold
 abbrev pub length_in : Bind → Option ℕ

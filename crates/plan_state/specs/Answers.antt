@@ -20,7 +20,7 @@ use Rattle.plan_state.specs.declared.state.Draft.{Draft}
 use Rattle.plan_state.specs.declared.state.PlanFault.{PlanFault}
 use Rattle.plan_state.specs.declared.state.Planner.{Planner}
 use Rattle.plan_state.specs.declared.state.World.{World}
-use Rattle.plan_state.specs.Steps.{IsReady, GoesOn, GoesOnIn, FailsIn}
+use Rattle.plan_state.specs.Steps.{state_after, IsBefore, IsReady, HasStepped, GoesOn, PassesLimit}
 
 -- WHAT A DRAFT TAKES
 
@@ -83,8 +83,10 @@ Answers old new x answer = (line : ℕ) (p : Planner) (draft : Draft)
 abbrev pub AnswersIn : Script → Table → World → World → Statement → Answer → Type 0
 AnswersIn script table old new x answer = (p : Planner) (draft : Draft)
     → HasTaken p.draft draft x.line answer
-    → GoesOnIn script table (record p { world = old }) (record p { world = new; draft = draft }) x
+    → (b : IsBefore script table (record p { world = old }) x)
+    → HasStepped b (record p { world = new; draft = draft })
 
 -- A fault comes where each planner with this world passes a limit by the statement.
 abbrev pub ExceedsIn : Script → Table → PlanFault → World → Statement → Type 0
-ExceedsIn script table fault w x = (p : Planner) → FailsIn script table fault (record p { world = w }) x
+ExceedsIn script table fault w x = (p : Planner) (b : IsBefore script table (record p { world = w }) x)
+    → PassesLimit fault (state_after script table b.n x)

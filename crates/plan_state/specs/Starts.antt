@@ -16,7 +16,7 @@ use Rattle.plan_state.specs.declared.state.Planner.{Planner}
 use Rattle.plan_state.specs.declared.state.World.{World}
 use Rattle.plan_state.specs.Answers.{HasOp}
 use Rattle.plan_state.specs.Copies.{IsCopied, IsGuardedAt, IsKernelChecked, IsKernelGuardable}
-use Rattle.plan_state.specs.Steps.{GoesOnIn, IsBefore}
+use Rattle.plan_state.specs.Steps.{IsBefore, HasStepped}
 
 -- THE COPY THAT IT RUNS: a guarded one, or a plain one
 
@@ -99,10 +99,11 @@ MayTakeJob script d (Starts start) = MayStart script d start
 abbrev pub SchedulesIn : Script → Table → World → World → Statement → JobAnswer → Type 0
 SchedulesIn script table old new x answer = (p : Planner) (draft : Draft)
     → HasTakenJob p.draft draft script x.line answer
-    → GoesOnIn script table (record p { world = old }) (record p { world = new; draft = draft }) x
+    → (b : IsBefore script table (record p { world = old }) x)
+    → HasStepped b (record p { world = new; draft = draft })
 
 -- The draft of each planner with this world that stands before the schedule may take the answer.
 abbrev pub MayBeTaken : Script → World → Statement → JobAnswer → Type 0
-MayBeTaken script w x answer = (p : Planner)
-    → IsBefore script (record p { world = w }) x
+MayBeTaken script w x answer = (p : Planner) (table : Table)
+    → IsBefore script table (record p { world = w }) x
     → MayTakeJob script p.draft answer

@@ -32,56 +32,37 @@ pub record IsStep (script : Script) (table : Table) (n : ℕ) (x : Statement) : 
 abbrev pub StandsAt : Planner → Script → Table → ScriptState → ℕ → List ℕ → Type 0
 StandsAt p script table begun n found = Stands p (setting script table) begun n (state_at script table n) found
 
--- Something is so of each script and state before a statement that a planner stands for.
-abbrev pub AtStatement : Planner → Statement → (Script → Table → ScriptState → ℕ → List ℕ → Type 0) → Type 0
-AtStatement p x Holds = (script : Script) (table : Table) (begun : ScriptState) (n : ℕ) (found : List ℕ)
-    → IsStep script table n x
-    → StandsAt p script table begun n found
-    → Holds script table begun n found
+-- WHAT A STATEMENT NEEDS, AND WHAT ITS ANSWER IS ABOUT
 
--- WHAT A STATEMENT NEEDS: there is a script in which the planner stands before it.
-
-pub record IsBefore (script : Script) (p : Planner) (x : Statement) : Type 0 where
-  pub table : Table
+-- A planner stands before the statement, in this script with this table.
+pub record IsBefore (script : Script) (table : Table) (p : Planner) (x : Statement) : Type 0 where
   pub begun : ScriptState
   pub n : ℕ
   pub found : List ℕ
   pub step : IsStep script table n x
   pub stands : StandsAt p script table begun n found
 
+-- it does so in some script
 abbrev pub IsReady : Planner → Statement → Type 0
-IsReady p x = (script : Script) × IsBefore script p x
+IsReady p x = (script : Script) × (table : Table) × IsBefore script table p x
 
 -- WHAT IT ANSWERS
 
 -- Some more ranges were found: it stands for the state afterwards, and its plan grew by what the statement adds.
-pub record HasStepped (script : Script) (table : Table) (begun : ScriptState) (n : ℕ) (found : List ℕ)
-    (old new : Planner) (x : Statement) : Type 0 where
+pub record HasStepped {script : Script} {table : Table} {old : Planner} {x : Statement}
+    (b : IsBefore script table old x) (new : Planner) : Type 0 where
   pub more : List ℕ
-  pub stands : Stands new (setting script table) begun (suc n) (state_after script table n x) (found ++ more)
+  pub stands : Stands new (setting script table) b.begun (suc b.n) (state_after script table b.n x) (b.found ++ more)
   pub grows : (starts : Starts)
-      → StartAs starts (found ++ more)
-      → Grows (setting script table) (state_at script table n) x starts begun.book.count old new
+      → StartAs starts (b.found ++ more)
+      → Grows (setting script table) (state_at script table b.n) x starts b.begun.book.count old new
 
--- it goes on, where it is of this script and has this table
-abbrev pub GoesOnIn : Script → Table → Planner → Planner → Statement → Type 0
-GoesOnIn script table old new x = (begun : ScriptState) (n : ℕ) (found : List ℕ)
-    → IsStep script table n x
-    → StandsAt old script table begun n found
-    → HasStepped script table begun n found old new x
-
--- it goes on, whatever they are
+-- A planner goes on by the statement, in whichever script it stands before it.
 abbrev pub GoesOn : Planner → Planner → Statement → Type 0
-GoesOn old new x = (script : Script) (table : Table) → GoesOnIn script table old new x
+GoesOn old new x = (script : Script) (table : Table) (b : IsBefore script table old x) → HasStepped b new
 
 -- a fault other than want of memory comes where the state afterwards passes a limit
 abbrev pub PassesLimit : PlanFault → ScriptState → Type 0
 PassesLimit NoMemory after = Unit {0}
 PassesLimit Jobs after = MOST_JOBS < after.book.count
 PassesLimit Words after = MOST_CREATED_WORDS < after.created
-
-abbrev pub FailsIn : Script → Table → PlanFault → Planner → Statement → Type 0
-FailsIn script table fault old x = (begun : ScriptState) (n : ℕ) (found : List ℕ)
-    → IsStep script table n x
-    → StandsAt old script table begun n found
-    → PassesLimit fault (state_after script table n x)

@@ -45,18 +45,18 @@ use Rattle.plan_laws.specs.Accessing.{written_by, add_act, IsWritable}
 use Rattle.plan_laws.specs.Binds.{bind_of, bind_at}
 use Rattle.plan_laws.specs.Drafts.{Draft}
 use Rattle.plan_laws.specs.Planned.{Outline, IsPlanned, Adds}
-use Rattle.plan_laws.proofs.Accessing.{sets_are_planned, adds_are_planned, puts_are_planned, removes_are_planned, clears_are_planned}
-use Rattle.plan_laws.proofs.Making.{at_here, at_other, alive_is_live}
-use Rattle.plan_laws.proofs.Printing.{allowed}
-use Rattle.plan_laws.proofs.Writable.{accepted_names_are_writable}
+use Rattle.plan_laws.proofs.Statements.Accessing.{sets_are_planned, adds_are_planned, puts_are_planned, removes_are_planned, clears_are_planned}
+use Rattle.plan_laws.proofs.Statements.Making.{at_here, at_other, alive_is_live}
+use Rattle.plan_laws.proofs.Statements.Printing.{allowed}
+use Rattle.plan_laws.proofs.Statements.Writable.{accepted_names_are_writable}
 use Rattle.plan_state.specs.declared.state.Container.{Container}
 use Rattle.plan_state.specs.declared.state.Planner.{Planner}
 use Rattle.plan_state.specs.declared.state.World.{World}
 use Rattle.plan_state.specs.declared.state.Value.{Value}
 use Rattle.plan_state.specs.Accesses.{bind_by, AreThere, IsPushed, MayUse}
 use Rattle.plan_state.specs.Growth.{given_by}
-use Rattle.plan_state.specs.Stands.{value_for, AreNames, Agrees, Stands, draft_of}
-use Rattle.plan_state.specs.Steps.{state_at, IsStep, IsReady, GoesOn}
+use Rattle.plan_state.specs.Stands.{value_for, AreNames, Agrees, draft_of}
+use Rattle.plan_state.specs.Steps.{state_at, IsStep, IsBefore, IsReady, GoesOn}
 use Rattle.plan_statements.specs.Views.{slot_by, slot_from, list_slot, with_break, IsBreakable, IsBroken}
 use Rattle.plan_state.proofs.Accessing.{are_there, breaks_none}
 use Rattle.plan_state.proofs.Binding.{binds_at}
@@ -182,28 +182,25 @@ pub record IsWrite (x : Order) (name : ℕ) (kinds : List NameKind) : Type 0 whe
   pub used : (g : Setting) (all : List NameKind) → FitsThere g all x → (made : ℕ) × (uses (record { kinds = all; made = made }) name kinds ≡ true)
 
 module _ (x : Statement) (name : ℕ) (kinds : List NameKind) (w : IsWrite x.act name kinds) where
-  name_below : (script : Script) (table : Table) (n : ℕ) (step : IsStep script table n x) → name < length (setting script table).names
-  name_below script table n step =
-      let u = w.used (setting script table) step.accepted.kinds (fits_at script table n x step) in
-      used_below script table n x step u.0 name kinds u.1
+  name_below : {script : Script} {table : Table} {n : ℕ} (step : IsStep script table n x) → name < length (setting script table).names
+  name_below {script} {table} step =
+      let u = w.used (setting script table) step.accepted.kinds (fits_at step) in
+      used_below step u.0 name kinds u.1
 
   pub write_ready : (p : Planner) → IsReady p x → (name < vec_len p.world.values)
       × AreThere (vec_len p.world.containers) (vec_len p.world.handles) p.world.values.items
   write_ready p r =
-      let b = r.1 in
-      let g = setting r.0 b.table in
-      let s = state_at r.0 b.table b.n in
-      (within p g b.begun b.n s b.found b.stands name (name_below r.0 b.table b.n b.step), are_there p g b.begun b.n s b.found b.stands)
+      let b = r.2 in
+      (within b.stands name (name_below b.step), are_there b.stands)
 
   pub write_refused : (p q : Planner) (cause : Refusal) → MayUse p.world name true (Some cause)
       → IsPushed p q (record { line = x.line; name = name; act = Say cause }) → GoesOn p q x
-  write_refused p q cause may i script table begun n found step st =
+  write_refused p q cause may i script table b =
       let g = setting script table in
-      let s = state_at script table n in
+      let s = state_at script table b.n in
       let r : Refused = record { cause = cause; name = name } in
-      let is = sym (may g s found st.knows) in
-      said script table begun n found x step r p st (w.blocked g s r is) (name_below script table n step) q w.unnamed w.passed
-      (inl (breaks_none s name true r is)) i
+      let is = sym (may g s b.found b.stands.knows) in
+      said b r (w.blocked g s r is) (name_below b.step) q w.unnamed w.passed (inl (breaks_none s name true r is)) i
 
 -- one operation is planned for it
 abbrev pub Plans : Statement → ℕ → List NameKind → (Bind → Act) → Type 0
@@ -217,20 +214,19 @@ Plans x name kinds operation = (y : Outline) (g : Setting) (s : ScriptState) (d 
     → IsPlanned y (act g s x) e
 
 planned_on : (x : Statement) (name : ℕ) (kinds : List NameKind) (w : IsWrite x.act name kinds) (operation : Bind → Act) → Plans x name kinds operation
-    → (p m : Planner) (v : Value) (at : Bind) (script : Script) (table : Table) (begun : ScriptState) (n : ℕ) (found : List ℕ) (step : IsStep script table n x)
-    → Stands p (setting script table) begun n (state_at script table n) found
+    → (p m : Planner) (v : Value) (at : Bind) {script : Script} {table : Table} (b : IsBefore script table p x)
     → MayUse p.world name true None → slice_get p.world.values.items name ≡ Some v → at ≡ bind_by p.world.containers.items v
     → IsPushed p m (record { line = x.line; name = name; act = operation at })
-    → (y : Outline) → Agrees p (setting script table) begun found y → IsPlanned y (act (setting script table) (state_at script table n) x) (draft_of m)
-planned_on x name kinds w operation plans p m v at script table begun n found step st may value is i y a =
+    → (y : Outline) → Agrees p (setting script table) b.begun b.found y → IsPlanned y (act (setting script table) (state_at script table b.n) x) (draft_of m)
+planned_on x name kinds w operation plans p m v at {script} {table} b may value is i y a =
     let g = setting script table in
-    let s = state_at script table n in
-    let none = sym (may g s found st.knows) in
-    let writable = accepted_names_are_writable script step.accepted table n x step.here name kinds w.by y a.names none in
-    plans y g s (draft_of p) (draft_of m) a.small st.knows.known (st.planned y a) step.acts writable
+    let s = state_at script table b.n in
+    let none = sym (may g s b.found b.stands.knows) in
+    let writable = accepted_names_are_writable script b.step.accepted table b.n x b.step.here name kinds w.by y a.names none in
+    plans y g s (draft_of p) (draft_of m) a.small b.stands.knows.known (b.stands.planned y a) b.step.acts writable
     (adds_op p m _ (changed_fields p m p.world.values p.world.handles p.world.safety p.world.passing m.draft.ops i.rest)
     (i.ops ∙ ap (λ b. p.draft.ops.items ++ record { line = x.line; name = name; act = operation b } ∷ [])
-    (is ∙ binds_at p g begun n s found st y a name v value writable.usable)))
+    (is ∙ binds_at b.stands y a name v value writable.usable)))
 
 -- ---- the state after it, whether the contents allow it or not
 
@@ -240,7 +236,7 @@ pub record IsAfter (s t : ScriptState) : Type 0 where
   pub values : t.values ≡ s.values
   pub form : (c start : ℕ) → c < s.made → bind_of start (t.contents c) ≡ bind_of start (s.contents c)
 
-module _ (x : Statement) (name : ℕ) (kinds : List NameKind) (w : IsWrite x.act name kinds) (script : Script) (table : Table) (n : ℕ)
+module _ (x : Statement) (name : ℕ) (kinds : List NameKind) (w : IsWrite x.act name kinds) {script : Script} {table : Table} {n : ℕ}
     (step : IsStep script table n x) where
   abbrev g : Setting
   g = setting script table
@@ -370,10 +366,10 @@ pub record IsResize (x : Order) (name : ℕ) (kinds : List NameKind) : Type 0 wh
 
 -- what its name stands for where nothing blocks it
 module _ (x : Statement) (name : ℕ) (kinds : List NameKind) (z : IsResize x.act name kinds) (p : Planner) (v : Value)
-    (h : slice_get p.world.values.items name ≡ Some v)
-    (script : Script) (table : Table) (begun : ScriptState) (n : ℕ) (found : List ℕ) (step : IsStep script table n x)
-    (st : Stands p (setting script table) begun n (state_at script table n) found)
-    (none : access (state_at script table n) name (need_of (state_at script table n) name true) [] ≡ None) where
+    (h : slice_get p.world.values.items name ≡ Some v) {script : Script} {table : Table} (b : IsBefore script table p x)
+    (none : access (state_at script table b.n) name (need_of (state_at script table b.n) name true) [] ≡ None) where
+  open b use {n, step, stands as st}
+
   abbrev before : ScriptState
   before = state_at script table n
 
@@ -382,12 +378,11 @@ module _ (x : Statement) (name : ℕ) (kinds : List NameKind) (z : IsResize x.ac
 
   whole : IsWholeAt p before v
   whole =
-      let u = z.write.used (setting script table) step.accepted.kinds (fits_at script table n x step) in
+      let u = z.write.used (setting script table) step.accepted.kinds (fits_at step) in
       let used = is_used (record { kinds = step.accepted.kinds; made = u.0 }) name kinds u.1 in
       let stands = st.knows.names.are name v h in
       let no_part = z.whole used.kind used.fits in
-      whole_at p before used.kind v no_part.0 no_part.1
-      (subst (IsOfKind before used.kind) (sym stands) ((holds_kinds script table n x step).names name used.kind used.at))
+      whole_at p before used.kind v no_part.0 no_part.1 (subst (IsOfKind before used.kind) (sym stands) ((holds_kinds step).names name used.kind used.at))
       (ap (is_alive before) stands ∙ (allowed before name true none).alive) (st.knows.names.there name v h)
 
   at : container_at before name ≡ whole.c
@@ -412,7 +407,7 @@ module _ (x : Statement) (name : ℕ) (kinds : List NameKind) (z : IsResize x.ac
           let z = state_of p.world.safety whole.it.slot.0 in
           let few = view_numbers_are_few (setting script table) (take n script.statements.items) whole.c in
           let long = length-take n script.statements.items in
-          let most = statements_few script table n x step in
+          let most = statements_few step in
           let view = k.view whole.alive in
           ((and_parts z.live _ (k.alive ∙ whole.alive)).0, omega arith)
 
@@ -425,7 +420,7 @@ module _ (x : Statement) (name : ℕ) (kinds : List NameKind) (z : IsResize x.ac
     states_are k = e.slots k ∙ ap (λ (y : Planner). with_break (list_slot y.world.containers.items v) k (state_of y.world.safety k)) i.rest
 
     broken : IsViewBroken before after (container_at before name) (is_list_now (contents_at before name))
-    broken = view_broken_now x name kinds z.write script table n step (z.change before) (z.is (setting script table) before x.line)
+    broken = view_broken_now x name kinds z.write step (z.change before) (z.is (setting script table) before x.line)
         (λ r f. z.resizes_it (setting script table) before r none f) (λ r f. z.breaks (setting script table) before r none f) below
 
     views_are : (c : ℕ) (it : Container) → slice_get p.world.containers.items c ≡ Some it → before.alive c ≡ true
@@ -477,7 +472,7 @@ module _ (x : Statement) (name : ℕ) (kinds : List NameKind) (z : IsResize x.ac
     broken_restates : IsRestated p q before after
     broken_restates =
         let is = ap (λ (k : World). record m { world = k }) e.rest ∙ ap (λ (k : Planner). record k { world = record k.world { safety = w.safety } }) i.rest in
-        let a = after_broken x name kinds z.write script table n step (z.change before) (z.is (setting script table) before x.line)
+        let a = after_broken x name kinds z.write step (z.change before) (z.is (setting script table) before x.line)
         (λ r f. z.resizes_it (setting script table) before r none f) (λ r f. z.breaks (setting script table) before r none f) below in
         let handles = ap (λ (k : Planner). length k.world.handles.items) is in
         record {
@@ -494,7 +489,7 @@ module _ (x : Statement) (name : ℕ) (kinds : List NameKind) (z : IsResize x.ac
         }
 
     broken_values : after.values ≡ before.values
-    broken_values = (after_broken x name kinds z.write script table n step (z.change before) (z.is (setting script table) before x.line)
+    broken_values = (after_broken x name kinds z.write step (z.change before) (z.is (setting script table) before x.line)
         (λ r f. z.resizes_it (setting script table) before r none f) (λ r f. z.breaks (setting script table) before r none f) below).values
 
 -- ---- it goes on
@@ -510,20 +505,18 @@ module _ (x : Statement) (name : ℕ) (kinds : List NameKind) (operation : Bind 
   pub write_on : (w : IsWrite x.act name kinds) → IsCalm x.act → (p q : Planner) (v : Value) (at : Bind) → MayUse p.world name true None
       → slice_get p.world.values.items name ≡ Some v → at ≡ bind_by p.world.containers.items v
       → IsPushed p q (record { line = x.line; name = name; act = operation at }) → GoesOn p q x
-  write_on w calm p q v at may value is i script table begun n found step st =
+  write_on w calm p q v at may value is i script table b =
       let g = setting script table in
-      let s = state_at script table n in
+      let s = state_at script table b.n in
       let t = act g s x in
       let little = calm.little g x.line s in
-      let a = after_calm x name kinds w script table n step little (calm.view g x.line s) (calm.sizes s) in
-      let view = view_calm x name kinds w script table n step little (calm.view g x.line s) (calm.sizes s) in
-      let restates = pushed_restates p q _ g begun n s t found st i a.state (a.passing ∙ sym step.acts) view a.form in
+      let a = after_calm x name kinds w b.step little (calm.view g x.line s) (calm.sizes s) in
+      let view = view_calm x name kinds w b.step little (calm.view g x.line s) (calm.sizes s) in
+      let restates = pushed_restates b.stands i a.state (a.passing ∙ sym b.step.acts) view a.form in
       let op : Op = record { line = x.line; name = name; act = operation at } in
-      plain_steps script table begun n found p q x step
-      (restated p q g begun n s t found st restates
-      (known_after script table n x step)
-      (pushed_names p q _ (length p.world.containers.items) s t i a.values st.knows.names)
-      (planned_on x name kinds w operation plans p q v at script table begun n found step st may value is i))
+      plain_steps b q (restated b.stands restates (known_after b.step)
+      (pushed_names p q _ (length p.world.containers.items) s t i a.values b.stands.knows.names)
+      (planned_on x name kinds w operation plans p q v at b may value is i))
       (quiet_restated p q s t restates (given_one p.draft.ops.items q.draft.ops.items op i.ops (gives at)))
       (w.plain g) (ap (λ (u : ScriptState). u.book.completed) restates.state)
 
@@ -532,23 +525,19 @@ module _ (x : Statement) (name : ℕ) (kinds : List NameKind) (operation : Bind 
       → slice_get p.world.values.items name ≡ Some v
       → at ≡ bind_by p.world.containers.items v
       → IsPushed p m (record { line = x.line; name = name; act = operation at }) → IsBroken m.world w v → GoesOn p (record m { world = w }) x
-  resize_on z p m w v at may value is i e script table begun n found step st =
+  resize_on z p m w v at may value is i e script table b =
       let q : Planner = record m { world = w } in
       let q_is = ap (λ (k : World). record m { world = k }) e.rest in
       let g = setting script table in
-      let s = state_at script table n in
+      let s = state_at script table b.n in
       let t = act g s x in
-      let none = sym (may g s found st.knows) in
-      let restates = broken_restates x name kinds z p v value script table begun n found step st none m w _ i e in
+      let none = sym (may g s b.found b.stands.knows) in
+      let restates = broken_restates x name kinds z p v value b none m w _ i e in
       let op : Op = record { line = x.line; name = name; act = operation at } in
-      plain_steps script table begun n found p q x step
-      (restated p q g begun n s t found st restates
-      (known_after script table n x step)
+      plain_steps b q (restated b.stands restates (known_after b.step)
       (subst (λ (k : Planner). AreNames k.world.values.items k.world.handles.items (length p.world.containers.items) t) (sym q_is)
-      (pushed_names p m _ (length p.world.containers.items) s t i (broken_values x name kinds z p v value script table begun n found step st none m w _ i e)
-      st.knows.names))
-      (λ y a. subst (λ k. IsPlanned y t (draft_of k)) (sym q_is)
-      (planned_on x name kinds z.write operation plans p m v at script table begun n found step st may value is i y a)))
+      (pushed_names p m _ (length p.world.containers.items) s t i (broken_values x name kinds z p v value b none m w _ i e) b.stands.knows.names))
+      (λ y a. subst (λ k. IsPlanned y t (draft_of k)) (sym q_is) (planned_on x name kinds z.write operation plans p m v at b may value is i y a)))
       (quiet_restated p q s t restates (given_one p.draft.ops.items q.draft.ops.items op (ap (λ (k : Planner). k.draft.ops.items) q_is ∙ i.ops) (gives at)))
       (z.write.plain g) (ap (λ (u : ScriptState). u.book.completed) restates.state)
 
@@ -556,9 +545,9 @@ pub resize_breakable : (x : Statement) (name : ℕ) (kinds : List NameKind) (z :
     → MayUse p.world name true None → slice_get p.world.values.items name ≡ Some v
     → IsBreakable p.world.safety (list_slot p.world.containers.items v)
 resize_breakable x name kinds z p v r may value =
-    let b = r.1 in
-    let s = state_at r.0 b.table b.n in
-    breakable_here x name kinds z p v value r.0 b.table b.begun b.n b.found b.step b.stands (sym (may (setting r.0 b.table) s b.found b.stands.knows))
+    let b = r.2 in
+    let s = state_at r.0 r.1 b.n in
+    breakable_here x name kinds z p v value b (sym (may (setting r.0 r.1) s b.found b.stands.knows))
 
 -- ---- each statement
 

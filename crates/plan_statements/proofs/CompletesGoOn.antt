@@ -28,7 +28,7 @@ use Rattle.frame_core.specs.Ordered.{ops_count}
 use Rattle.frame_core.proofs.Small.{not_both, either_bool}
 use Rattle.plan_laws.specs.Completing.{AreNewlyCompleted}
 use Rattle.plan_laws.specs.Planned.{Outline, jobs_before, AreJobsUpTo, IsPlanned}
-use Rattle.plan_laws.proofs.Completing.{completes_are_planned}
+use Rattle.plan_laws.proofs.Statements.Completing.{completes_are_planned}
 use Rattle.plan_state.specs.declared.answer.Answer.{Answer}
 use Rattle.plan_state.specs.declared.answer.Answer.TheVariants.{Nothing, Refused, Does, Fills, Waits, Reports}
 use Rattle.plan_state.specs.declared.state.Draft.{Draft}
@@ -40,7 +40,7 @@ use Rattle.plan_state.specs.Answers.{HasTaken, IsClosed}
 use Rattle.plan_statements.specs.Completions.{newly_of, AreEnded, AreCompleted, IsCompletion}
 use Rattle.plan_state.specs.Growth.{waits_so_far, HasWaited, rising_jobs, unless_none, waits_by, newly_in, newly_completed}
 use Rattle.plan_state.specs.Stands.{AreNames, AreContainers, AreTemps, AreTempJobs, Agrees, Stands, draft_of}
-use Rattle.plan_state.specs.Steps.{state_at, IsStep, StandsAt, HasStepped, GoesOn, IsReady}
+use Rattle.plan_state.specs.Steps.{state_at, IsBefore, HasStepped, GoesOn, IsReady}
 use Rattle.plan_state.proofs.Accessing.{are_there}
 use Rattle.plan_statements.proofs.CompletedJobs.{has_append, has_set, has_none, rising_up_to, completed_stand}
 use Rattle.plan_statements.proofs.Endings.Continuing.{IsContinued, continued, same_temps, same_tempjobs}
@@ -57,24 +57,35 @@ ops_more [] x = omega arith
 ops_more (y ∷ ys) x = let more = ops_more ys x in omega arith
 
 -- ---- what completing needs
-module _ (p : Planner) (script : Script) (table : Table) (begun : ScriptState) (n : ℕ) (s : ScriptState) (found : List ℕ)
-    (st : Stands p (setting script table) begun n s found) where
-  jobs_count : count_of p.world.jobs ≡ s.book.count
+module _ {script : Script} {table : Table} {p : Planner} {x : Statement} (b : IsBefore script table p x) where
+  open b use {begun, n, found, stands as st}
+
+  jobs_count : count_of p.world.jobs ≡ (state_at script table n).book.count
   jobs_count = st.knows.jobs.count
 
   pub section_low : p.world.jobs_before ≤ count_of p.world.jobs
-  section_low = let are = jobs_are p script table begun n s found st in let before = st.numbers.before in let c = jobs_count in omega arith
+  section_low =
+      let are = jobs_are p script table begun n (state_at script table n) found st in
+      let before = st.numbers.before in
+      let c = jobs_count in
+      omega arith
 
   pub section_jobs : count_of p.world.jobs - p.world.jobs_before ≡ length p.draft.jobs.items
-  section_jobs = let are = jobs_are p script table begun n s found st in let before = st.numbers.before in let c = jobs_count in omega arith
+  section_jobs =
+      let are = jobs_are p script table begun n (state_at script table n) found st in
+      let before = st.numbers.before in
+      let c = jobs_count in
+      omega arith
 
   pub users_known : (k : ℕ) → AreUpTo (count_of p.world.jobs) (users_of (place_of p.world.store k).state)
   users_known k = subst (λ m. AreUpTo m (users_of (place_of p.world.store k).state)) (sym jobs_count)
-      (store_users p.world s found st.knows.containers st.knows.known.book st.knows.known.uses k)
+      (store_users p.world (state_at script table n) found st.knows.containers st.knows.known.book st.knows.known.uses k)
 
 -- ---- jobs are completed
-module _ (script : Script) (table : Table) (begun : ScriptState) (n : ℕ) (found : List ℕ)
-    (p : Planner) (st : StandsAt p script table begun n found) (handle : Jobs) (up : AreUpTo (state_at script table n).book.count handle) where
+module _ {script : Script} {table : Table} {p : Planner} {x : Statement} (b : IsBefore script table p x) (handle : Jobs)
+    (up : AreUpTo (state_at script table b.n).book.count handle) where
+  open b use {begun, n, found, step, stands as st}
+
   abbrev g : Setting
   g = setting script table
 
@@ -102,8 +113,7 @@ module _ (script : Script) (table : Table) (begun : ScriptState) (n : ℕ) (foun
     none_later : (j : ℕ) → last < j → set j ≡ false
     none_later j lt = ⊎_elim
         (λ e. (let range = ancestors_among s.book st.knows.known.book handle up (p.world.jobs_before + j) e in
-        let count = jobs_count p script table begun n s found st in absurd (omega arith)))
-        (λ e. ap (λ b. b && not (s.book.completed (p.world.jobs_before + j))) e)
+        let count = jobs_count b in absurd (omega arith))) (λ e. ap (λ b. b && not (s.book.completed (p.world.jobs_before + j))) e)
         (either_bool (ancestors_in s.book handle (p.world.jobs_before + j)))
 
     has_newly : (j : ℕ) → 0 < j → has_job newly j ≡ set j
@@ -138,7 +148,7 @@ module _ (script : Script) (table : Table) (begun : ScriptState) (n : ℕ) (foun
       news j pos = has_newly j pos ∙ ap (λ b. newly_of s.book b (ancestors_in s.book handle) j) (sym before_is)
 
       fits : AreJobsUpTo (length p.draft.jobs.items) newly
-      fits = subst (λ m. AreJobsUpTo m newly) (section_jobs p script table begun n s found st) (subst (AreJobsUpTo last) (sym newly_is) (rising_up_to set last))
+      fits = subst (λ m. AreJobsUpTo m newly) (section_jobs b) (subst (AreJobsUpTo last) (sym newly_is) (rising_up_to set last))
 
       planned : IsPlanned y t (draft_of q)
       planned =
@@ -157,7 +167,7 @@ module _ (script : Script) (table : Table) (begun : ScriptState) (n : ℕ) (foun
     newly_now =
         newly_is
         ∙ (let before = st.numbers.before in
-        let count = jobs_count p script table begun n s found st in
+        let count = jobs_count b in
         λ i. rising_jobs (newly_of s.book (before i) (ancestors_in s.book handle)) (count i - before i))
         ∙ (let path : newly_of s.book begun.book.count (ancestors_in s.book handle) ≡ newly_in begun.book.count s t =
         λ i j. by (s.book.completed (begun.book.count + j)) (ancestors_in s.book handle (begun.book.count + j)) i in
@@ -211,7 +221,7 @@ module _ (script : Script) (table : Table) (begun : ScriptState) (n : ℕ) (foun
           containers = stand;
         }
 
-    module _ (x : Statement) (step : IsStep script table n x) (is : act g s x ≡ t) (plain : IsPlain g x.act) where
+    module _ (is : act g s x ≡ t) (plain : IsPlain g x.act) where
       still : IsStill g s x begun.book.count p q
       still = record {
         spans = given_closed p.draft.segments.items d.segments.items i.segment p.draft.ops.items d.ops.items i.segments i.ops_were i.ops;
@@ -226,11 +236,9 @@ module _ (script : Script) (table : Table) (begun : ScriptState) (n : ℕ) (foun
             ∙ ap (λ ids. waits_by p ++ unless_none ids) (newly_now ∙ ap (newly_completed begun.book.count s) (sym is));
       }
 
-      pub completes_on : HasStepped script table begun n found p q x
+      pub completes_on : HasStepped b q
       completes_on =
-          still_steps script table begun n found p q x step
-          (subst (λ u. Stands q g begun (suc n) u found) (sym is)
-          (continued p q g begun n s t found st goes (subst IsKnown is (known_after script table n x step))
+          still_steps b q (subst (λ u. Stands q g begun (suc n) u found) (sym is) (continued st goes (subst IsKnown is (known_after step))
           (subst (λ (k : World). AreNames k.values.items k.handles.items (length p.world.containers.items) t) (sym c.rest)
           (same_names p.world.values.items p.world.handles.items (length p.world.containers.items) s t refl st.knows.names))
           planned))
@@ -243,7 +251,7 @@ module _ (script : Script) (table : Table) (begun : ScriptState) (n : ℕ) (foun
     done j e =
         let range = up j e in
         let high = range.1 in
-        let count = jobs_count p script table begun n s found st in
+        let count = jobs_count b in
         let a = agrees p script table begun n s found st in
         let begins = ap (λ (b : ScriptState). b.book.count) a.begins in
         let before = st.numbers.before in
@@ -285,28 +293,26 @@ module _ (script : Script) (table : Table) (begun : ScriptState) (n : ℕ) (foun
       containers = st.knows.containers;
     }
 
-    pub ended_on : (x : Statement) → IsStep script table n x → act g s x ≡ t → IsPlain g x.act → HasStepped script table begun n found p p x
-    ended_on x step is plain =
-        plain_steps script table begun n found p p x step
-        (subst (λ u. Stands p g begun (suc n) u found) (sym (is ∙ same))
-        (continued p p g begun n s s found st stay st.knows.known st.knows.names (λ y a. st.planned y a)))
+    pub ended_on : act g s x ≡ t → IsPlain g x.act → HasStepped b p
+    ended_on is plain =
+        plain_steps b p (subst (λ u. Stands p g begun (suc n) u found) (sym (is ∙ same))
+        (continued st stay st.knows.known st.knows.names (λ y a. st.planned y a)))
         (record { spans = refl; peak = refl; jobs = refl; kernels = refl; segments = refl; waits = refl })
         plain (ap (λ (u : ScriptState). u.book.completed) (is ∙ same))
 
 -- ---- a statement that completes some jobs goes on by what that leaves to do
-module _ (script : Script) (table : Table) (begun : ScriptState) (n : ℕ) (found : List ℕ) (x : Statement) (step : IsStep script table n x)
-    (p : Planner) (st : StandsAt p script table begun n found) (handle : Jobs) (up : AreUpTo (state_at script table n).book.count handle) where
+module _ {script : Script} {table : Table} {p : Planner} {x : Statement} (b : IsBefore script table p x) (handle : Jobs)
+    (up : AreUpTo (state_at script table b.n).book.count handle) where
   abbrev IsNext : World → Draft → Type 0
-  IsNext w d = HasStepped script table begun n found p (record p { world = w; draft = d }) x
+  IsNext w d = HasStepped b (record p { world = w; draft = d })
 
   pub completion_on : (w : World) (d : Draft) (answer : Answer) → IsCompletion p.world w handle answer → HasTaken p.draft d x.line answer
-      → act (setting script table) (state_at script table n) x ≡ complete handle (state_at script table n) → IsPlain (setting script table) x.act
+      → act (setting script table) (state_at script table b.n) x ≡ complete handle (state_at script table b.n) → IsPlain (setting script table) x.act
       → IsNext w d
   completion_on w d Nothing done took is plain =
-      subst (λ (v : World). IsNext v d) (sym done.1)
-      (subst (λ (e : Draft). IsNext p.world e) (sym took) (ended_on script table begun n found p st handle up done.0 x step is plain))
+      subst (λ (v : World). IsNext v d) (sym done.1) (subst (λ (e : Draft). IsNext p.world e) (sym took) (ended_on b handle up done.0 is plain))
   completion_on w d (Waits newly) done took is plain =
-      completes_on script table begun n found p st handle up w d newly.items done took x step is plain
+      completes_on b handle up w d newly.items done took is plain
   completion_on w d (Refused name refusal) done took is plain = absurd done
   completion_on w d (Does name what) done took is plain = absurd done
   completion_on w d (Fills name span values) done took is plain = absurd done
@@ -327,16 +333,15 @@ module _ (p : Planner) (name : ℕ) where
 
   pub complete_ready : (line : ℕ) → IsReady p (statement line) → CanComplete
   complete_ready line ready =
-      let b = ready.1 in
-      let g = setting ready.0 b.table in
-      let s = state_at ready.0 b.table b.n in
-      let fits = fits_at ready.0 b.table b.n (statement line) b.step in
+      let b = ready.2 in
+      let s = state_at ready.0 ready.1 b.n in
+      let fits = fits_at b.step in
       record {
-        name_in = within p g b.begun b.n s b.found b.stands name (used_below ready.0 b.table b.n (statement line) b.step fits.made name
+        name_in = within b.stands name (used_below b.step fits.made name
             (kind.Handle ∷ []) fits.fits);
-        there = are_there p g b.begun b.n s b.found b.stands;
-        before = section_low p ready.0 b.table b.begun b.n s b.found b.stands;
-        users = users_known p ready.0 b.table b.begun b.n s b.found b.stands;
+        there = are_there b.stands;
+        before = section_low b;
+        users = users_known b;
         jobs = λ v h j e.
             subst (λ m. (0 < j) × (j ≤ m)) (sym b.stands.knows.jobs.count)
             (b.stands.knows.known.handles name j (sym (ap (λ w. states.jobs_of w j) (b.stands.knows.names.are name v h))
@@ -347,11 +352,10 @@ module _ (p : Planner) (name : ℕ) where
       → jobs_of jobs ≡ jobs_of_value p.world.handles.items v
       → IsCompletion p.world w (jobs_of jobs) answer → (line : ℕ) → HasTaken p.draft draft line answer
       → GoesOn p (record p { world = w; draft = draft }) (statement line)
-  complete_goes w draft answer jobs v h are done line took script table begun n found step st =
-      let s = state_at script table n in
+  complete_goes w draft answer jobs v h are done line took script table b =
+      let s = state_at script table b.n in
       let same : jobs_of jobs ≡ states.jobs_of (s.values name) =
-      are ∙ (λ i j. value_jobs p.world.values.items p.world.handles.items (length p.world.containers.items) s st.knows.names v j i)
-      ∙ ap states.jobs_of (st.knows.names.are name v h) in
-      completion_on script table begun n found (statement line) step p st (states.jobs_of (s.values name)) (st.knows.known.handles name) w draft answer
-      (subst (λ js. IsCompletion p.world w js answer) same done) took
-      (accepted_state (setting script table) s (statement line) step.acts refl) (refl, tt)
+      are ∙ (λ i j. value_jobs p.world.values.items p.world.handles.items (length p.world.containers.items) s b.stands.knows.names v j i)
+      ∙ ap states.jobs_of (b.stands.knows.names.are name v h) in
+      completion_on b (states.jobs_of (s.values name)) (b.stands.knows.known.handles name) w draft answer
+      (subst (λ js. IsCompletion p.world w js answer) same done) took (accepted_state (setting script table) s (statement line) b.step.acts refl) (refl, tt)

@@ -36,7 +36,7 @@ use Rattle.frame_core.specs.declared.plan.Act.TheVariants.{Say}
 use Rattle.frame_core.specs.Ordered.{ops_count}
 use Rattle.frame_core.proofs.Small.{not_both, get_below}
 use Rattle.plan_laws.specs.Planned.{IsPlanned}
-use Rattle.plan_laws.proofs.Disposing.{disposals_are_planned}
+use Rattle.plan_laws.proofs.Statements.Disposing.{disposals_are_planned}
 use Rattle.plan_state.specs.declared.state.Value.{Value}
 use Rattle.plan_state.specs.declared.state.Value.TheVariants.{Dead, Whole, Slice, View, Jobs as Handles}
 use Rattle.plan_state.specs.declared.state.Container.{Container}
@@ -46,7 +46,7 @@ use Rattle.plan_state.specs.Accesses.{refused_as, jobs_in, jobs_of_value, jobs_f
 use Rattle.plan_statements.specs.Endings.{disposal, IsDisposable, CanEnd, CanHold, IsGiven}
 use Rattle.plan_state.specs.Growth.{given_so_far}
 use Rattle.plan_state.specs.Stands.{jobs_at, value_for, AreNames, AreContainers, AreTemps, AreTempJobs, Stands, draft_of}
-use Rattle.plan_state.specs.Steps.{state_at, IsStep, StandsAt, HasStepped, GoesOn, IsReady}
+use Rattle.plan_state.specs.Steps.{state_at, IsBefore, HasStepped, GoesOn, IsReady}
 use Rattle.plan_state.proofs.Accessing.{are_there, read_some}
 use Rattle.plan_statements.proofs.Endings.Continuing.{IsContinued, continued, quiet_continued, same_temps, same_tempjobs}
 use Rattle.plan_statements.proofs.Disposals.{disposed_alive, alive_container}
@@ -92,7 +92,7 @@ module _ (values : List Value) (handles : List Handle) (made : ℕ) (s : ScriptS
 
 -- ---- what a container that ends needs
 
-module _ (p : Planner) (g : Setting) (begun : ScriptState) (n : ℕ) (s : ScriptState) (found : List ℕ) (st : Stands p g begun n s found) (few : n < 65536) where
+module _ {p : Planner} {g : Setting} {begun : ScriptState} {n : ℕ} {s : ScriptState} {found : List ℕ} (st : Stands p g begun n s found) (few : n < 65536) where
   module _ (c : ℕ) (below : c < length p.world.containers.items) (alive : s.alive c ≡ true) where
     one : (it : Container) × (slice_get p.world.containers.items c ≡ Some it)
     one = there p.world.containers.items c below
@@ -211,19 +211,21 @@ Answers p s name after answer = (refused_as (result_err answer) name ≡ disposa
     × IfOk answer (λ c. (container_at s name ≡ c) × (c < length p.world.containers.items))
 
 -- `dispose` without `after`
-module _ (script : Script) (table : Table) (begun : ScriptState) (n : ℕ) (found : List ℕ) (line name : ℕ) (after : Vec ℕ Global) where
+module _ (line name : ℕ) (after : Vec ℕ Global) where
   abbrev x : Statement
   x = record { line = line; act = Dispose name after None }
 
-  abbrev g : Setting
-  g = setting script table
+  module _ {script : Script} {table : Table} {p : Planner} (b : IsBefore script table p x) where
+    open b use {begun, n, found, step, stands as st}
 
-  abbrev s : ScriptState
-  s = state_at script table n
+    abbrev g : Setting
+    g = setting script table
 
-  module _ (step : IsStep script table n x) (p : Planner) (st : StandsAt p script table begun n found) where
+    abbrev s : ScriptState
+    s = state_at script table n
+
     fits : FitsThere g step.accepted.kinds x.act
-    fits = fits_at script table n x step
+    fits = fits_at step
 
     no_after : after.items ≡ []
     no_after = empty after.items (eqb-true (length after.items) 0 (and_parts (uses (record { kinds = step.accepted.kinds; made = fits.made }) name DISPOSABLE)
@@ -234,7 +236,7 @@ module _ (script : Script) (table : Table) (begun : ScriptState) (n : ℕ) (foun
         empty (x ∷ xs) e = absurd (omega arith)
 
     pub plain_below : name < length g.names
-    plain_below = used_below script table n x step fits.made name DISPOSABLE
+    plain_below = used_below step fits.made name DISPOSABLE
         (and_parts (uses (record { kinds = step.accepted.kinds; made = fits.made }) name DISPOSABLE) (nat_eq (length after.items) 0) fits.fits).0
 
     named_nobody : jobs_named s after.items ≡ nobody
@@ -245,9 +247,9 @@ module _ (script : Script) (table : Table) (begun : ScriptState) (n : ℕ) (foun
 
     pub plain_refused : (q : Planner) (cause : Refusal) → Answers p s name nobody (Err cause)
         → IsPushed p q (record { line = line; name = name; act = Say cause })
-        → HasStepped script table begun n found p q x
+        → HasStepped b q
     plain_refused q cause a i =
-        said script table begun n found x step (record { cause = cause; name = name }) p st (refusal_is ∙ sym a.0) plain_below q refl refl (inr (λ c. refl)) i
+        said b (record { cause = cause; name = name }) (refusal_is ∙ sym a.0) plain_below q refl refl (inr (λ c. refl)) i
 
     module _ (c : ℕ) (a : Answers p s name nobody (Ok c)) where
       unrefused : refusal g s x.act ≡ None
@@ -257,7 +259,7 @@ module _ (script : Script) (table : Table) (begun : ScriptState) (n : ℕ) (foun
       alive = alive_container s (s.values name) (disposed_alive s name nobody (sym a.0))
 
       pub plain_can_end : CanEnd p.world (slice_get p.world.containers.items c)
-      plain_can_end = can_end p g begun n s found st (let few = statements_few script table n x step in omega arith) c a.1.1 (ap s.alive (sym a.1.0) ∙ alive)
+      plain_can_end = can_end st (let few = statements_few step in omega arith) c a.1.1 (ap s.alive (sym a.1.0) ∙ alive)
 
       module _ (after_it : World) (i : IsGiven p.world after_it c) where
         abbrev q : Planner
@@ -313,15 +315,13 @@ module _ (script : Script) (table : Table) (begun : ScriptState) (n : ℕ) (foun
           containers = containers;
         }
 
-        pub plain_ended : HasStepped script table begun n found p q x
+        pub plain_ended : HasStepped b q
         plain_ended =
-            plain_steps script table begun n found p q x step
-            (subst (λ u. Stands q g begun (suc n) u found) (sym is)
-            (continued p q g begun n s t found st goes (subst IsKnown is (known_after script table n x step))
+            plain_steps b q (subst (λ u. Stands q g begun (suc n) u found) (sym is) (continued st goes (subst IsKnown is (known_after step))
             (subst (λ (k : Planner). AreNames k.world.values.items k.world.handles.items (length p.world.containers.items) t) (sym rest)
             (same_names p.world.values.items p.world.handles.items (length p.world.containers.items) s t refl st.knows.names))
-            (λ y b. subst (λ (k : Planner). IsPlanned y t (draft_of k)) (sym rest)
-            (disposals_are_planned y s name (draft_of p) st.knows.known (st.planned y b)))))
+            (λ y agrees. subst (λ (k : Planner). IsPlanned y t (draft_of k)) (sym rest)
+            (disposals_are_planned y s name (draft_of p) st.knows.known (st.planned y agrees)))))
             (quiet_continued p q s t found goes (ap given_so_far rest) (ap (λ (k : Planner). k.draft.segments) rest)
             (ap (λ (k : Planner). k.draft.waits) rest))
             (refl, tt) (ap (λ (u : ScriptState). u.book.completed) is)
@@ -334,27 +334,25 @@ module _ (p : Planner) (line name : ℕ) where
   pub plain_ready : (after : Vec ℕ Global) → IsReady p (plain after) → (name < vec_len p.world.values)
       × AreThere (vec_len p.world.containers) (vec_len p.world.handles) p.world.values.items
   plain_ready after ready =
-      let b = ready.1 in
-      let g = setting ready.0 b.table in
-      let s = state_at ready.0 b.table b.n in (
-        within p g b.begun b.n s b.found b.stands name (plain_below ready.0 b.table b.begun b.n b.found line name after b.step p b.stands),
-        are_there p g b.begun b.n s b.found b.stands,
+      let b = ready.2 in
+      let s = state_at ready.0 ready.1 b.n in (
+        within b.stands name (plain_below line name after b),
+        are_there b.stands,
       )
 
   pub plain_ends : (after : Vec ℕ Global) → IsReady p (plain after) → (c : ℕ) → IsDisposable p.world name nobody (Ok c)
       → CanEnd p.world (slice_get p.world.containers.items c)
   plain_ends after ready c answer =
-      let b = ready.1 in
-      plain_can_end ready.0 b.table b.begun b.n b.found line name after b.step p b.stands c
-      (answer (setting ready.0 b.table) (state_at ready.0 b.table b.n) b.found b.stands.knows)
+      let b = ready.2 in
+      plain_can_end line name after b c (answer (setting ready.0 ready.1) (state_at ready.0 ready.1 b.n) b.found b.stands.knows)
 
   pub plain_says : (q : Planner) (cause : Refusal) → IsDisposable p.world name nobody (Err cause)
       → IsPushed p q (record { line = line; name = name; act = Say cause })
       → (after : Vec ℕ Global) → GoesOn p q (plain after)
-  plain_says q cause answer i after script table begun n found step st =
-      plain_refused script table begun n found line name after step p st q cause (answer (setting script table) (state_at script table n) found st.knows) i
+  plain_says q cause answer i after script table b =
+      plain_refused line name after b q cause (answer (setting script table) (state_at script table b.n) b.found b.stands.knows) i
 
   pub plain_goes : (w : World) (c : ℕ) → IsDisposable p.world name nobody (Ok c) → IsGiven p.world w c → (after : Vec ℕ Global)
       → GoesOn p (record p { world = w }) (plain after)
-  plain_goes w c answer i after script table begun n found step st =
-      plain_ended script table begun n found line name after step p st c (answer (setting script table) (state_at script table n) found st.knows) w i
+  plain_goes w c answer i after script table b =
+      plain_ended line name after b c (answer (setting script table) (state_at script table b.n) b.found b.stands.knows) w i

@@ -23,7 +23,7 @@ use Rattle.frame_core.proofs.Small.{not_both, some_is, none_some, either_bool, g
 use Rattle.plan_laws.specs.Disposing.{with_alive}
 use Rattle.plan_laws.specs.Frames.{report_op, report_ops}
 use Rattle.plan_laws.specs.Planned.{Outline, IsPlanned}
-use Rattle.plan_laws.proofs.Frames.{frames_are_planned}
+use Rattle.plan_laws.proofs.Statements.Frames.{frames_are_planned}
 use Rattle.plan_state.specs.declared.state.Container.{Container}
 use Rattle.plan_state.specs.declared.state.Draft.{Draft}
 use Rattle.plan_state.specs.declared.state.Planner.{Planner}
@@ -32,7 +32,7 @@ use Rattle.plan_statements.specs.Frames.{is_kept, AreSmall, HaveRoom, IsOver, st
 use Rattle.plan_state.specs.Answers.{HasOps}
 use Rattle.plan_state.specs.Growth.{given_in, given_from, given_so_far}
 use Rattle.plan_state.specs.Stands.{AreNames, AreContainers, AreTemps, AreTempJobs, Agrees, Stands, draft_of}
-use Rattle.plan_state.specs.Steps.{state_at, IsStep, StandsAt, HasStepped, GoesOnIn, IsReady}
+use Rattle.plan_state.specs.Steps.{state_at, IsBefore, HasStepped, GoesOn, IsReady}
 use Rattle.plan_state.proofs.Accessing.{read_some}
 use Rattle.plan_statements.proofs.Endings.Continuing.{IsContinued, continued, quiet_continued}
 use Rattle.plan_statements.proofs.DisposalsGoOn.{as_continued}
@@ -204,11 +204,11 @@ module _ (p : Planner) (line : ℕ) where
 
   pub frame_ready : IsReady p statement → CanFrame
   frame_ready ready =
-      let b = ready.1 in
-      let g = setting ready.0 b.table in
-      let s = state_at ready.0 b.table b.n in
+      let b = ready.2 in
+      let g = setting ready.0 ready.1 in
+      let s = state_at ready.0 ready.1 b.n in
       let st = b.stands in
-      let most = statements_few ready.0 b.table b.n statement b.step in
+      let most = statements_few b.step in
       let made = st.knows.containers.made in
       let len = p.world.containers.ok.0 in
       let few = st.numbers.made_few in
@@ -229,9 +229,9 @@ module _ (p : Planner) (line : ℕ) where
 
 -- ---- a frame
 module _ (p : Planner) (r m : World) (d : Draft) (reports : List Op) (line : ℕ) (reported : AreReported p.world r line reports) (over : AreOver r m)
-    (has : HasOps p.draft d reports)
-    (script : Script) (table : Table) (begun : ScriptState) (n : ℕ) (found : List ℕ) (step : IsStep script table n (statement p line))
-    (st : StandsAt p script table begun n found) where
+    (has : HasOps p.draft d reports) {script : Script} {table : Table} (b : IsBefore script table p (statement p line)) where
+  open b use {begun, n, found, step, stands as st}
+
   abbrev x : Statement
   x = statement p line
 
@@ -364,12 +364,10 @@ module _ (p : Planner) (r m : World) (d : Draft) (reports : List Op) (line : ℕ
       (given_more p.draft.ops.items (report_ops s line s.made) ∙ ap (λ l. given_in p.draft.ops.items ++ l) (none_reported s.made)
       ∙ append-nil (given_in p.draft.ops.items))
 
-  pub frame_on : HasStepped script table begun n found p q x
+  pub frame_on : HasStepped b q
   frame_on =
       let is = accepted_state g s x step.acts refl in
-      plain_steps script table begun n found p q x step
-      (subst (λ u. Stands q g begun (suc n) u found) (sym is)
-      (continued p q g begun n s t found st goes (subst IsKnown is (known_after script table n x step))
+      plain_steps b q (subst (λ u. Stands q g begun (suc n) u found) (sym is) (continued st goes (subst IsKnown is (known_after step))
       (subst (λ (k : Planner). AreNames k.world.values.items k.world.handles.items (length p.world.containers.items) t) (sym is_q)
       (same_names p.world.values.items p.world.handles.items (length p.world.containers.items) s t refl st.knows.names))
       planned))
@@ -378,6 +376,6 @@ module _ (p : Planner) (r m : World) (d : Draft) (reports : List Op) (line : ℕ
 
 pub frame_goes : (p : Planner) (r m : World) (d : Draft) (reports : List Op) (line : ℕ) → AreReported p.world r line reports → AreOver r m
     → HasOps p.draft d reports
-    → (script : Script) (table : Table) → GoesOnIn script table p (record p { world = record m { frame = m.frame + 1 }; draft = d }) (statement p line)
-frame_goes p r m d reports line reported over has script table begun n found step st =
-    frame_on p r m d reports line reported over has script table begun n found step st
+    → GoesOn p (record p { world = record m { frame = m.frame + 1 }; draft = d }) (statement p line)
+frame_goes p r m d reports line reported over has script table b =
+    frame_on p r m d reports line reported over has b

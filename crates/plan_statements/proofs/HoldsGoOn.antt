@@ -28,7 +28,7 @@ use Rattle.slot_store.specs.Stores.{peak_of, slots_in_use}
 use Rattle.frame_core.specs.declared.plan.Act.TheVariants.{Say}
 use Rattle.frame_core.specs.Ordered.{ops_count}
 use Rattle.plan_laws.specs.Planned.{Outline, IsPlanned}
-use Rattle.plan_laws.proofs.Disposing.{disposals_are_planned, others_are_planned}
+use Rattle.plan_laws.proofs.Statements.Disposing.{disposals_are_planned, others_are_planned}
 use Rattle.plan_state.specs.declared.state.Value.TheVariants.{Jobs as Handles}
 use Rattle.plan_state.specs.declared.state.Planner.{Planner}
 use Rattle.plan_state.specs.declared.state.World.{World}
@@ -36,7 +36,7 @@ use Rattle.plan_state.specs.Accesses.{jobs_by, IsPushed, HasHandle, AreThere}
 use Rattle.plan_statements.specs.Endings.{disposal, IsDisposable, CanHold, IsHeldBack}
 use Rattle.plan_state.specs.Growth.{given_so_far}
 use Rattle.plan_state.specs.Stands.{AreNames, AreContainers, AreTemps, AreTempJobs, Agrees, Stands, draft_of}
-use Rattle.plan_state.specs.Steps.{state_at, IsStep, StandsAt, HasStepped, GoesOn, IsReady}
+use Rattle.plan_state.specs.Steps.{state_at, IsBefore, HasStepped, GoesOn, IsReady}
 use Rattle.plan_state.proofs.Accessing.{are_there}
 use Rattle.plan_statements.proofs.Endings.Continuing.{IsContinued, continued, quiet_continued, same_temps, same_tempjobs}
 use Rattle.plan_statements.proofs.Disposals.{disposed_alive, alive_container}
@@ -50,10 +50,11 @@ use Rattle.plan_state.proofs.Reaching.{known_after, fits_at, statements_few, use
 use Rattle.plan_state.proofs.Restating.{accepted_state, said_nobody}
 
 -- ---- a container ends, and a name of a handle stands for some jobs
-module _ (script : Script) (table : Table) (begun : ScriptState) (n : ℕ) (found : List ℕ) (x : Statement) (step : IsStep script table n x)
-    (p : Planner) (st : StandsAt p script table begun n found) (name handle : ℕ) (jobs : Jobs)
-    (alive : (state_at script table n).alive (container_at (state_at script table n) name) ≡ true)
-    (m last : World) (i : IsHeldBack p.world m (container_at (state_at script table n) name)) (e : HasHandle m last handle jobs) where
+module _ {script : Script} {table : Table} {p : Planner} {x : Statement} (b : IsBefore script table p x) (name handle : ℕ) (jobs : Jobs)
+    (alive : (state_at script table b.n).alive (container_at (state_at script table b.n) name) ≡ true)
+    (m last : World) (i : IsHeldBack p.world m (container_at (state_at script table b.n) name)) (e : HasHandle m last handle jobs) where
+  open b use {begun, n, found, step, stands as st}
+
   abbrev q : Planner
   q = record p { world = last }
 
@@ -126,11 +127,9 @@ module _ (script : Script) (table : Table) (begun : ScriptState) (n : ℕ) (foun
       (record { made = refl; contents = refl; alive = refl; uses = refl; range = refl; book = refl; traps = refl; refused = refl; lines = refl })
       (disposals_are_planned y s name (draft_of p) st.knows.known (st.planned y a)))
 
-  pub held_on : act g s x ≡ t → IsPlain g x.act → HasStepped script table begun n found p q x
+  pub held_on : act g s x ≡ t → IsPlain g x.act → HasStepped b q
   held_on is plain =
-      plain_steps script table begun n found p q x step
-      (subst (λ u. Stands q g begun (suc n) u found) (sym is)
-      (continued p q g begun n s t found st goes (subst IsKnown is (known_after script table n x step))
+      plain_steps b q (subst (λ u. Stands q g begun (suc n) u found) (sym is) (continued st goes (subst IsKnown is (known_after step))
       (handle_names m last (length p.world.containers.items) s t handle jobs was_named e named) planned))
       (quiet_continued p q s t found goes (ap given_so_far is_q) (ap (λ (k : Planner). k.draft.segments) is_q) (ap (λ (k : Planner). k.draft.waits) is_q))
       plain (ap (λ (u : ScriptState). u.book.completed) is)
@@ -147,19 +146,21 @@ all_below kinds made most (n ∷ more) h f (suc k) d lt =
     all_below kinds made most more (and_parts (uses (record { kinds = kinds; made = made }) n (kind.Handle ∷ []))
     (all_used (record { kinds = kinds; made = made }) more) h).1 f k d (omega arith)
 
-module _ (script : Script) (table : Table) (begun : ScriptState) (n : ℕ) (found : List ℕ) (line name : ℕ) (after : Vec ℕ Global) (handle : ℕ) where
+module _ (line name : ℕ) (after : Vec ℕ Global) (handle : ℕ) where
   abbrev x_after : Statement
   x_after = record { line = line; act = Dispose name after (Some handle) }
 
-  abbrev g' : Setting
-  g' = setting script table
+  module _ {script : Script} {table : Table} {p : Planner} (b : IsBefore script table p x_after) where
+    open b use {n, step, stands as st}
 
-  abbrev s' : ScriptState
-  s' = state_at script table n
+    abbrev g' : Setting
+    g' = setting script table
 
-  module _ (step : IsStep script table n x_after) (p : Planner) (st : StandsAt p script table begun n found) where
+    abbrev s' : ScriptState
+    s' = state_at script table n
+
     fits : FitsThere g' step.accepted.kinds x_after.act
-    fits = fits_at script table n x_after step
+    fits = fits_at step
 
     abbrev ns : Names
     ns = record { kinds = step.accepted.kinds; made = fits.made }
@@ -171,17 +172,17 @@ module _ (script : Script) (table : Table) (begun : ScriptState) (n : ℕ) (foun
     halves = and_parts (uses ns name DISPOSABLE && nat_le 1 (length after.items)) (makes ns handle kind.Handle && all_used ns after.items) fits.fits
 
     pub name_below : name < length g'.names
-    name_below = used_below script table n x_after step fits.made name DISPOSABLE
+    name_below = used_below step fits.made name DISPOSABLE
         (and_parts (uses ns name DISPOSABLE) (nat_le 1 (length after.items)) halves.0).0
 
     pub handle_below : handle < length g'.names
-    handle_below = made_below script table n x_after step fits.made handle kind.Handle
+    handle_below = made_below step fits.made handle kind.Handle
         (and_parts (makes ns handle kind.Handle) (all_used ns after.items) halves.1).0
 
     pub after_below : All (λ k. k < length p.world.values.items) after.items
     after_below = all_below step.accepted.kinds fits.made (length p.world.values.items) after.items
         (and_parts (makes ns handle kind.Handle) (all_used ns after.items) halves.1).1
-        (λ k h. let lt = used_below script table n x_after step fits.made k (kind.Handle ∷ []) h in let e = st.knows.each in omega arith)
+        (λ k h. let lt = used_below step fits.made k (kind.Handle ∷ []) h in let e = st.knows.each in omega arith)
 
     module _ (jobs : Jobs) (are : (j : ℕ) → jobs j ≡ jobs_by p.world.handles.items p.world.values.items after.items j) where
       jobs_are : jobs ≡ jobs_named s' after.items
@@ -197,10 +198,9 @@ module _ (script : Script) (table : Table) (begun : ScriptState) (n : ℕ) (foun
 
       pub after_refused : (m : Planner) (w : World) (cause : Refusal) → Answers p s' name jobs (Err cause)
           → IsPushed p m (record { line = line; name = name; act = Say cause })
-          → HasHandle m.world w handle nobody → HasStepped script table begun n found p (record m { world = w }) x_after
+          → HasHandle m.world w handle nobody → HasStepped b (record m { world = w })
       after_refused m w cause a i e =
-          said_nobody script table begun n found x_after step (record { cause = cause; name = name }) p st
-          (refusal_is ∙ sym a.0) name_below m w handle refl refl refl (inr (λ c. refl)) i e
+          said_nobody b (record { cause = cause; name = name }) (refusal_is ∙ sym a.0) name_below m w handle refl refl refl (inr (λ c. refl)) i e
 
       module _ (c : ℕ) (a : Answers p s' name jobs (Ok c)) where
         unrefused : refusal g' s' x_after.act ≡ None
@@ -210,13 +210,13 @@ module _ (script : Script) (table : Table) (begun : ScriptState) (n : ℕ) (foun
         is_alive' = alive_container s' (s'.values name) (disposed_alive s' name jobs (sym a.0))
 
         pub after_can_hold : CanHold p.world (slice_get p.world.containers.items c)
-        after_can_hold = can_hold p g' begun n s' found st (let few = statements_few script table n x_after step in omega arith) c a.1.1
+        after_can_hold = can_hold st (let few = statements_few step in omega arith) c a.1.1
             (ap s'.alive (sym a.1.0) ∙ is_alive')
 
         pub after_held : (m w : World) → IsHeldBack p.world m c → HasHandle m w handle jobs
-            → HasStepped script table begun n found p (record p { world = w }) x_after
+            → HasStepped b (record p { world = w })
         after_held m w i e =
-            held_on script table begun n found x_after step p st name handle jobs is_alive' m w (subst (IsHeldBack p.world m) (sym a.1.0) i) e
+            held_on b name handle jobs is_alive' m w (subst (IsHeldBack p.world m) (sym a.1.0) i) e
             (accepted_state g' s' x_after step.acts unrefused ∙ ap (λ js. with_name handle (states.Handle js) (dispose name s')) (sym jobs_are)) (refl, tt)
 
 -- the same as the code asks and answers
@@ -237,20 +237,19 @@ module _ (p : Planner) (line name : ℕ) (after : Vec ℕ Global) (handle : ℕ)
 
   pub after_ready : IsReady p statement → CanDispose
   after_ready ready =
-      let b = ready.1 in
-      let g = setting ready.0 b.table in
-      let s = state_at ready.0 b.table b.n in
+      let b = ready.2 in
+      let g = setting ready.0 ready.1 in
+      let s = state_at ready.0 ready.1 b.n in
       record {
-        name_in = within p g b.begun b.n s b.found b.stands name (name_below ready.0 b.table b.begun b.n b.found line name after handle b.step p b.stands);
-        handle_in = within p g b.begun b.n s b.found b.stands handle (handle_below ready.0 b.table b.begun b.n b.found line name after handle b.step p
-            b.stands);
-        there = are_there p g b.begun b.n s b.found b.stands;
-        few = (let few = b.stands.numbers.handles_few in let most = statements_few ready.0 b.table b.n statement b.step in let len = p.world.handles.ok.0 in
+        name_in = within b.stands name (name_below line name after handle b);
+        handle_in = within b.stands handle (handle_below line name after handle b);
+        there = are_there b.stands;
+        few = (let few = b.stands.numbers.handles_few in let most = statements_few b.step in let len = p.world.handles.ok.0 in
             omega arith);
         after_in = subst (λ most. All (λ k. k < most) after.items) (sym p.world.values.ok.0)
-            (after_below ready.0 b.table b.begun b.n b.found line name after handle b.step p b.stands);
-        jobs = jobs_known ready.0 b.table b.begun b.n b.found line name after handle b.step p b.stands;
-        holds = λ js are c answer. after_can_hold ready.0 b.table b.begun b.n b.found line name after handle b.step p b.stands js are c
+            (after_below line name after handle b);
+        jobs = jobs_known line name after handle b;
+        holds = λ js are c answer. after_can_hold line name after handle b js are c
             (answer g s b.found b.stands.knows);
       }
 
@@ -258,12 +257,10 @@ module _ (p : Planner) (line name : ℕ) (after : Vec ℕ Global) (handle : ℕ)
       → (cause : Refusal)
       → IsDisposable p.world name jobs (Err cause) → IsPushed p m (record { line = line; name = name; act = Say cause }) → HasHandle m.world w handle nobody
       → GoesOn p (record m { world = w }) statement
-  after_says m w jobs are cause answer i e script table begun n found step st =
-      after_refused script table begun n found line name after handle step p st jobs are m w cause
-      (answer (setting script table) (state_at script table n) found st.knows) i e
+  after_says m w jobs are cause answer i e script table b =
+      after_refused line name after handle b jobs are m w cause (answer (setting script table) (state_at script table b.n) b.found b.stands.knows) i e
 
   pub after_goes : (m w : World) (jobs : Jobs) → ((j : ℕ) → jobs j ≡ jobs_by p.world.handles.items p.world.values.items after.items j) → (c : ℕ)
       → IsDisposable p.world name jobs (Ok c) → IsHeldBack p.world m c → HasHandle m w handle jobs → GoesOn p (record p { world = w }) statement
-  after_goes m w jobs are c answer i e script table begun n found step st =
-      after_held script table begun n found line name after handle step p st jobs are c
-      (answer (setting script table) (state_at script table n) found st.knows) m w i e
+  after_goes m w jobs are c answer i e script table b =
+      after_held line name after handle b jobs are c (answer (setting script table) (state_at script table b.n) b.found b.stands.knows) m w i e

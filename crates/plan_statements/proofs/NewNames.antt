@@ -34,8 +34,8 @@ use Rattle.frame_core.specs.declared.plan.Act.TheVariants.{Say}
 use Rattle.frame_core.proofs.Small.{not_both, some_is, none_some, get_below}
 use Rattle.plan_laws.specs.Binds.{bind_of}
 use Rattle.plan_laws.specs.Planned.{IsPlanned}
-use Rattle.plan_laws.proofs.Disposing.{others_are_planned}
-use Rattle.plan_laws.proofs.Making.{at_here, at_other, alive_is_live}
+use Rattle.plan_laws.proofs.Statements.Disposing.{others_are_planned}
+use Rattle.plan_laws.proofs.Statements.Making.{at_here, at_other, alive_is_live}
 use Rattle.plan_state.specs.declared.state.Value.{Value}
 use Rattle.plan_state.specs.declared.state.Value.TheVariants.{Dead, Whole, Slice, View, Jobs as Handles}
 use Rattle.plan_state.specs.declared.state.Container.{Container}
@@ -44,7 +44,7 @@ use Rattle.plan_state.specs.declared.state.World.{World}
 use Rattle.plan_state.specs.Accesses.{slice_in, bind_from, bind_in, bind_by, length_in, start_of, part_by, IsPushed, IsRenamed, HasHandle, IsGone, IsRefusal, IsLiveSlot, IsWholeAlive, AreThere, jobs_by, view_of, view_number, view_by}
 use Rattle.plan_state.specs.Stands.{value_for, jobs_at, IsThere, AreNames, Stands, draft_of}
 use Rattle.plan_state.specs.Growth.{given_in}
-use Rattle.plan_state.specs.Steps.{state_at, IsStep, HasStepped, IsReady, GoesOn}
+use Rattle.plan_state.specs.Steps.{state_at, IsStep, IsBefore, HasStepped, IsReady, GoesOn}
 use Rattle.plan_state.proofs.Accessing.{are_there, there}
 use Rattle.plan_state.proofs.Naming.{IsNamed, set_long, renamed_names, handle_names, handles_more, jobs_are}
 use Rattle.plan_state.proofs.Quiet.{IsPlain}
@@ -56,8 +56,9 @@ use Rattle.plan_state.proofs.Restating.{accepted_on, calm, changed_fields, said_
 named : (s : ScriptState) (name : ℕ) (v : states.Value) → IsNamed s (with_name name v s) name v
 named s name v = record { here = at_here s.values name v; others = λ m ne. at_other s.values name v m ne }
 
-module _ (script : Script) (table : Table) (begun : ScriptState) (n : ℕ) (found : List ℕ) (x : Statement) (step : IsStep script table n x) (p : Planner)
-    (last : World) (name : ℕ) where
+module _ {script : Script} {table : Table} {p : Planner} {x : Statement} (b : IsBefore script table p x) (last : World) (name : ℕ) where
+  open b use {n, stands as st}
+
   abbrev q : Planner
   q = record p { world = last }
 
@@ -68,9 +69,9 @@ module _ (script : Script) (table : Table) (begun : ScriptState) (n : ℕ) (foun
   s = state_at script table n
 
   abbrev Onward : Type 0
-  Onward = HasStepped script table begun n found p q x
+  Onward = HasStepped b q
 
-  module _ (st : Stands p g begun n s found) (none : refusal g s x.act ≡ None) (plain : IsPlain g x.act) where
+  module _ (none : refusal g s x.act ≡ None) (plain : IsPlain g x.act) where
     -- with a value that is no handle
     pub renamed_on : (v : Value) (w : states.Value) → effect g x.line s x.act ≡ with_name name w s → IsRenamed p.world last name v
         → IsThere (length p.world.containers.items) (length p.world.handles.items) v → ((k : ℕ) → v ≡ Handles k → ⊥) → value_for p.world.handles.items v ≡ w
@@ -80,8 +81,7 @@ module _ (script : Script) (table : Table) (begun : ScriptState) (n : ℕ) (foun
         let t = effect g x.line s x.act in
         let handles = ap (λ (k : Planner). k.world.handles.items) rest in
         let ops = ap (λ (k : Planner). k.draft.ops.items) rest in
-        accepted_on script table begun n found x step p q st none plain (ap (λ (k : Planner). given_in k.draft.ops.items) rest)
-        (calm p q g begun n s t found st
+        accepted_on b q none plain (ap (λ (k : Planner). given_in k.draft.ops.items) rest) (calm st
         (changed_fields p q q.world.values p.world.handles p.world.safety p.world.passing p.draft.ops rest)
         (subst (λ (u : ScriptState). u ≡ record s {
           values = u.values;
@@ -119,8 +119,7 @@ module _ (script : Script) (table : Table) (begun : ScriptState) (n : ℕ) (foun
         let t = effect g x.line s x.act in
         let ops = ap (λ (k : Planner). k.draft.ops.items) rest in
         let is_named = subst (λ u. IsNamed s u name (states.Handle jobs)) (sym is) (named s name (states.Handle jobs)) in
-        accepted_on script table begun n found x step p q st none plain (ap (λ (k : Planner). given_in k.draft.ops.items) rest)
-        (calm p q g begun n s t found st
+        accepted_on b q none plain (ap (λ (k : Planner). given_in k.draft.ops.items) rest) (calm st
         (changed_fields p q q.world.values q.world.handles p.world.safety p.world.passing p.draft.ops rest)
         (subst (λ (u : ScriptState). u ≡ record s {
           values = u.values;
@@ -161,14 +160,14 @@ module _ (line name of : ℕ) where
   abbrev copy : Statement
   copy = record { line = line; act = CopyOf name of }
 
-  module _ (script : Script) (table : Table) (n : ℕ) (step : IsStep script table n copy) where
+  module _ {script : Script} {table : Table} {n : ℕ} (step : IsStep script table n copy) where
     abbrev names_at : ℕ → Names
     names_at made = record { kinds = step.accepted.kinds; made = made }
 
     -- its source is a name of a container
     copy_used : (made : ℕ) × (uses (names_at made) of CONTAINERS ≡ true) × (copies (names_at made) name (slice_get step.accepted.kinds of) ≡ true)
     copy_used =
-        let f = fits_at script table n copy step in
+        let f = fits_at step in
         let both = and_parts (uses (names_at f.made) of CONTAINERS) (copies (names_at f.made) name (slice_get step.accepted.kinds of)) f.fits in
         (f.made, both.0, both.1)
 
@@ -177,30 +176,27 @@ module _ (line name of : ℕ) where
       where
         by : (o : Option NameKind) → copies (names_at copy_used.0) name o ≡ true → name < length (setting script table).names
         by None h = absurd (not_both h refl)
-        by (Some k) h = made_below script table n copy step copy_used.0 name k h
+        by (Some k) h = made_below step copy_used.0 name k h
 
   pub copy_ready : (p : Planner) → IsReady p copy → (of < vec_len p.world.values) × (name < vec_len p.world.values)
   copy_ready p r =
-      let b = r.1 in
-      let g = setting r.0 b.table in
-      let s = state_at r.0 b.table b.n in
-      let u = copy_used r.0 b.table b.n b.step in (
-        within p g b.begun b.n s b.found b.stands of (used_below r.0 b.table b.n copy b.step u.0 of CONTAINERS u.1),
-        within p g b.begun b.n s b.found b.stands name (copy_below r.0 b.table b.n b.step),
+      let b = r.2 in
+      let u = copy_used b.step in (
+        within b.stands of (used_below b.step u.0 of CONTAINERS u.1),
+        within b.stands name (copy_below b.step),
       )
 
   pub copied : (p : Planner) (w : World) (v : Value) → slice_get p.world.values.items of ≡ Some v → IsRenamed p.world w name v
       → GoesOn p (record p { world = w }) copy
-  copied p w v h e script table begun n found step st =
-      let s = state_at script table n in
-      let u = copy_used script table n step in
-      let used = is_used (names_at script table n step u.0) of CONTAINERS u.1 in
-      let stands = st.knows.names.are of v h in
-      let held = subst (IsOfKind s used.kind) (sym stands) ((holds_kinds script table n copy step).names of used.kind used.at) in
-      renamed_on script table begun n found copy step p w name st refl (refl, tt) v (s.values of) refl e (st.knows.names.there of v h)
+  copied p w v h e script table b =
+      let s = state_at script table b.n in
+      let u = copy_used b.step in
+      let used = is_used (names_at b.step u.0) of CONTAINERS u.1 in
+      let stands = b.stands.knows.names.are of v h in
+      let held = subst (IsOfKind s used.kind) (sym stands) ((holds_kinds b.step).names of used.kind used.at) in
+      renamed_on b w name refl (refl, tt) v (s.values of) refl e (b.stands.knows.names.there of v h)
       (λ k is. container_no_jobs s used.kind p.world.handles.items v k held (no_handle used.kind used.fits)
-      (st.knows.names.there of (Handles k) (h ∙ ap Some is)) is)
-      stands
+      (b.stands.knows.names.there of (Handles k) (h ∙ ap Some is)) is) stands
 
 -- by what is answered of a name
 alive_by : (s : ScriptState) (of : ℕ) (b : Bool) → b ≡ not (is_alive s (s.values of)) → b ≡ false → is_alive s (s.values of) ≡ true
@@ -260,7 +256,7 @@ no_slices (Pairs cap ps) h = cc
 no_slices (Entries room es) h = cc
 
 -- what is known of a name that is an array or a slice
-module _ (p : Planner) (g : Setting) (begun : ScriptState) (n : ℕ) (s : ScriptState) (found : List ℕ) (st : Stands p g begun n s found) where
+module _ {p : Planner} {g : Setting} {begun : ScriptState} {n : ℕ} {s : ScriptState} {found : List ℕ} (st : Stands p g begun n s found) where
   -- the words of a container
   bind_read : (c : ℕ) (f : Bind → Bind) → c < length p.world.containers.items
       → (start : ℕ) × (bind_in p.world.containers.items c f ≡ f (bind_of start (s.contents c)))
@@ -363,16 +359,16 @@ module _ (line name of start len : ℕ) where
       by true false = refl
       by true true = refl
 
-  record IsSliced (script : Script) (table : Table) (n : ℕ) (step : IsStep script table n slice) : Type 0 where
+  record IsSliced {script : Script} {table : Table} {n : ℕ} (step : IsStep script table n slice) : Type 0 where
     made : ℕ
     makes_it : makes (record { kinds = step.accepted.kinds; made = made }) name kind.Slice ≡ true
     uses_it : uses (record { kinds = step.accepted.kinds; made = made }) of SLICEABLE ≡ true
     start_few : start ≤ 1048576
     len_few : len ≤ 1048576
 
-  slice_used : (script : Script) (table : Table) (n : ℕ) (step : IsStep script table n slice) → IsSliced script table n step
-  slice_used script table n step =
-      let f = fits_at script table n slice step in
+  slice_used : {script : Script} {table : Table} {n : ℕ} (step : IsStep script table n slice) → IsSliced step
+  slice_used step =
+      let f = fits_at step in
       let ns : Names = record { kinds = step.accepted.kinds; made = f.made } in
       let all = and_parts (makes ns name kind.Slice && uses ns of SLICEABLE) (up_to MOST_ELEMENTS start && up_to MOST_ELEMENTS len) f.fits in
       let names = and_parts (makes ns name kind.Slice) (uses ns of SLICEABLE) all.0 in
@@ -394,96 +390,94 @@ module _ (line name of start len : ℕ) where
 
   pub slice_ready : (p : Planner) → IsReady p slice → IsSliceReady p
   slice_ready p r =
-      let b = r.1 in
-      let g = setting r.0 b.table in
-      let s = state_at r.0 b.table b.n in
-      let u = slice_used r.0 b.table b.n b.step in
+      let b = r.2 in
+      let u = slice_used b.step in
       record {
-        of_in = within p g b.begun b.n s b.found b.stands of (used_below r.0 b.table b.n slice b.step u.made of SLICEABLE u.uses_it);
-        name_in = within p g b.begun b.n s b.found b.stands name (made_below r.0 b.table b.n slice b.step u.made name kind.Slice u.makes_it);
-        there = are_there p g b.begun b.n s b.found b.stands;
+        of_in = within b.stands of (used_below b.step u.made of SLICEABLE u.uses_it);
+        name_in = within b.stands name (made_below b.step u.made name kind.Slice u.makes_it);
+        there = are_there b.stands;
         start_few = u.start_few;
         len_few = u.len_few;
       }
 
   -- the length of its source
-  module _ (p : Planner) (script : Script) (table : Table) (begun : ScriptState) (n : ℕ) (found : List ℕ) (step : IsStep script table n slice)
-      (st : Stands p (setting script table) begun n (state_at script table n) found)
-      (v : Value) (h : slice_get p.world.values.items of ≡ Some v) (alive : is_alive (state_at script table n) ((state_at script table n).values of)
-      ≡ true) where
+  module _ {script : Script} {table : Table} {p : Planner} (b : IsBefore script table p slice) (v : Value)
+      (h : slice_get p.world.values.items of ≡ Some v) (alive : is_alive (state_at script table b.n) ((state_at script table b.n).values of) ≡ true) where
+    open b use {n, step, stands as st}
+
     abbrev now : ScriptState
     now = state_at script table n
 
-    used : IsUsed (record { kinds = step.accepted.kinds; made = (slice_used script table n step).made }) of SLICEABLE
-    used = is_used (record { kinds = step.accepted.kinds; made = (slice_used script table n step).made }) of SLICEABLE (slice_used script table n step).uses_it
+    used : IsUsed (record { kinds = step.accepted.kinds; made = (slice_used step).made }) of SLICEABLE
+    used = is_used (record { kinds = step.accepted.kinds; made = (slice_used step).made }) of SLICEABLE (slice_used step).uses_it
 
     stands : value_for p.world.handles.items v ≡ now.values of
     stands = st.knows.names.are of v h
 
     held : IsOfKind now used.kind (value_for p.world.handles.items v)
-    held = subst (IsOfKind now used.kind) (sym stands) ((holds_kinds script table n slice step).names of used.kind used.at)
+    held = subst (IsOfKind now used.kind) (sym stands) ((holds_kinds step).names of used.kind used.at)
 
     alive_for : is_alive now (value_for p.world.handles.items v) ≡ true
     alive_for = ap (is_alive now) stands ∙ alive
 
     pub source_long : length_in (bind_by p.world.containers.items v) ≡ Some (length (value_elements (now.values of) (contents_at now of)))
     source_long =
-        elements_long p (setting script table) begun n now found st used.kind v (two_kinds used.kind kind.Array kind.Slice used.fits) held alive_for
-        (st.knows.names.there of v h)
+        elements_long st used.kind v (two_kinds used.kind kind.Array kind.Slice used.fits) held alive_for (st.knows.names.there of v h)
         ∙ ap (λ v. Some (length (value_elements v (now.contents (states.container_of v))))) stands
 
     pub source_part : start + len ≤ length (value_elements (now.values of) (contents_at now of))
         → IsThere (length p.world.containers.items) (length p.world.handles.items) (part_by v start len)
     source_part fits =
-        part_there p (setting script table) begun n now found st used.kind v start len (slice_used script table n step).start_few held alive_for
+        part_there st used.kind v start len (slice_used step).start_few held alive_for
         (subst (λ v. start + len ≤ length (value_elements v (now.contents (states.container_of v)))) (sym stands) fits) (st.knows.names.there of v h)
 
   -- what it answers
-  pub slice_gone : (p : Planner) (b : Bool) → IsGone p.world of b → b ≡ true → IsRefusal p slice of (Some Disposed)
-  slice_gone p b gone is script table begun n found step st =
+  pub slice_gone : (p : Planner) (dead : Bool) → IsGone p.world of dead → dead ≡ true → IsRefusal p slice of (Some Disposed)
+  slice_gone p dead gone is script table b =
       let g = setting script table in
-      let s = state_at script table n in
-      sym (slice_decided g s ∙ ap (λ a. decide a (fits_in s)) (dead_by s of b (gone g s found st.knows) is))
+      let s = state_at script table b.n in
+      sym (slice_decided g s ∙ ap (λ a. decide a (fits_in s)) (dead_by s of dead (gone g s b.found b.stands.knows) is))
 
-  pub slice_long : (p : Planner) (b : Bool) → IsGone p.world of b → b ≡ false → (v : Value) → slice_get p.world.values.items of ≡ Some v → (l : ℕ)
+  pub slice_long : (p : Planner) (dead : Bool) → IsGone p.world of dead → dead ≡ false → (v : Value) → slice_get p.world.values.items of ≡ Some v → (l : ℕ)
       → length_in (bind_by p.world.containers.items v) ≡ Some l → l < start + len
       → IsRefusal p slice of (Some PastRange)
-  slice_long p b gone is v h l at lt script table begun n found step st =
+  slice_long p dead gone is v h l at lt script table b =
       let g = setting script table in
-      let s = state_at script table n in
-      let alive = alive_by s of b (gone g s found st.knows) is in
-      let same : l ≡ length (value_elements (s.values of) (contents_at s of)) = some_is (sym at ∙ source_long p script table begun n found step st v h alive) in
+      let s = state_at script table b.n in
+      let alive = alive_by s of dead (gone g s b.found b.stands.knows) is in
+      let same : l ≡ length (value_elements (s.values of) (contents_at s of)) = some_is (sym at ∙ source_long b v h alive) in
       let past : fits_in s ≡ false = grind arith in
       sym (slice_decided g s ∙ ap (λ a. decide a (fits_in s)) alive ∙ ap (decide true) past)
 
-  pub slice_fits : (p : Planner) (b : Bool) → IsGone p.world of b → b ≡ false → (v : Value) → slice_get p.world.values.items of ≡ Some v → (l : ℕ)
+  pub slice_fits : (p : Planner) (dead : Bool) → IsGone p.world of dead → dead ≡ false → (v : Value) → slice_get p.world.values.items of ≡ Some v → (l : ℕ)
       → length_in (bind_by p.world.containers.items v) ≡ Some l → start + len ≤ l
       → IsRefusal p slice of None
-  slice_fits p b gone is v h l at le script table begun n found step st =
+  slice_fits p dead gone is v h l at le script table b =
       let g = setting script table in
-      let s = state_at script table n in
-      let alive = alive_by s of b (gone g s found st.knows) is in
-      let same : l ≡ length (value_elements (s.values of) (contents_at s of)) = some_is (sym at ∙ source_long p script table begun n found step st v h alive) in
+      let s = state_at script table b.n in
+      let alive = alive_by s of dead (gone g s b.found b.stands.knows) is in
+      let same : l ≡ length (value_elements (s.values of) (contents_at s of)) = some_is (sym at ∙ source_long b v h alive) in
       let fits : fits_in s ≡ true = grind arith in
       sym (slice_decided g s ∙ ap (λ a. decide a (fits_in s)) alive ∙ ap (decide true) fits)
 
   -- and so its source has a length where it isn't gone
-  pub source_has : (p : Planner) → IsReady p slice → (b : Bool) → IsGone p.world of b → b ≡ false → (v : Value) → slice_get p.world.values.items of ≡ Some v
+  pub source_has : (p : Planner) → IsReady p slice → (dead : Bool) → IsGone p.world of dead → dead ≡ false → (v : Value)
+      → slice_get p.world.values.items of ≡ Some v
       → (l : ℕ) × (length_in (bind_by p.world.containers.items v) ≡ Some l)
-  source_has p r b gone is v h =
-      let i = r.1 in
-      let g = setting r.0 i.table in
-      let s = state_at r.0 i.table i.n in
-      let alive = alive_by s of b (gone g s i.found i.stands.knows) is in
-      (length (value_elements (s.values of) (contents_at s of)), source_long p r.0 i.table i.begun i.n i.found i.step i.stands v h alive)
+  source_has p r dead gone is v h =
+      let i = r.2 in
+      let g = setting r.0 r.1 in
+      let s = state_at r.0 r.1 i.n in
+      let alive = alive_by s of dead (gone g s i.found i.stands.knows) is in
+      (length (value_elements (s.values of) (contents_at s of)), source_long i v h alive)
 
   -- and it goes on
   pub slice_refused : (p m : Planner) (w : World) (cause : Refusal) → IsRefusal p slice of (Some cause)
       → IsPushed p m (record { line = line; name = of; act = Say cause }) → IsRenamed m.world w name Dead → GoesOn p (record m { world = w }) slice
-  slice_refused p m w cause is i e script table begun n found step st =
-      let u = slice_used script table n step in
-      said_dead script table begun n found slice step (record { cause = cause; name = of }) p st (sym (is script table begun n found step st))
-      (used_below script table n slice step u.made of SLICEABLE u.uses_it) m w name refl refl refl (inr (λ c. refl)) i e
+  slice_refused p m w cause is i e script table b =
+      let u = slice_used b.step in
+      said_dead b (record { cause = cause; name = of }) (sym (is script table b))
+      (used_below b.step u.made of SLICEABLE u.uses_it) m w name refl refl refl (inr (λ c. refl)) i e
 
   accepted : (a f : Bool) → decide a f ≡ None → (a ≡ true) × (f ≡ true)
   accepted false f e = absurd (none_some (sym e))
@@ -493,15 +487,15 @@ module _ (line name of start len : ℕ) where
   pub slice_taken : (p : Planner) (w : World) (v : Value) → IsRefusal p slice of None → slice_get p.world.values.items of ≡ Some v
       → IsRenamed p.world w name (part_by v start len)
       → GoesOn p (record p { world = w }) slice
-  slice_taken p w v is h e script table begun n found step st =
+  slice_taken p w v is h e script table b =
       let g = setting script table in
-      let s = state_at script table n in
-      let none : refusal g s (SliceOf name of start len) ≡ None = sym (is script table begun n found step st) in
+      let s = state_at script table b.n in
+      let none : refusal g s (SliceOf name of start len) ≡ None = sym (is script table b) in
       let both = accepted (is_alive s (s.values of)) (fits_in s) (sym (slice_decided g s) ∙ none) in
       let fits = leb-true (start + len) (length (value_elements (s.values of) (contents_at s of))) both.1 in
-      renamed_on script table begun n found slice step p w name st none (refl, tt) (part_by v start len) (part_of (s.values of) start len) refl e
-      (source_part p script table begun n found step st v h both.0 fits) (part_no_jobs v start len)
-      (part_stands p.world.handles.items v start len ∙ ap (λ v. part_of v start len) (st.knows.names.are of v h))
+      renamed_on b w name none (refl, tt) (part_by v start len) (part_of (s.values of) start len) refl e
+      (source_part b v h both.0 fits) (part_no_jobs v start len)
+      (part_stands p.world.handles.items v start len ∙ ap (λ v. part_of v start len) (b.stands.knows.names.are of v h))
 
 -- ---- `view`
 
@@ -547,14 +541,14 @@ module _ (line name of : ℕ) where
       by false = refl
       by true = refl
 
-  record IsViewed (script : Script) (table : Table) (n : ℕ) (step : IsStep script table n viewing) : Type 0 where
+  record IsViewed {script : Script} {table : Table} {n : ℕ} (step : IsStep script table n viewing) : Type 0 where
     made : ℕ
     makes_it : makes (record { kinds = step.accepted.kinds; made = made }) name kind.View ≡ true
     uses_it : uses (record { kinds = step.accepted.kinds; made = made }) of (kind.List ∷ []) ≡ true
 
-  view_used : (script : Script) (table : Table) (n : ℕ) (step : IsStep script table n viewing) → IsViewed script table n step
-  view_used script table n step =
-      let f = fits_at script table n viewing step in
+  view_used : {script : Script} {table : Table} {n : ℕ} (step : IsStep script table n viewing) → IsViewed step
+  view_used step =
+      let f = fits_at step in
       let ns : Names = record { kinds = step.accepted.kinds; made = f.made } in
       let both = and_parts (makes ns name kind.View) (uses ns of (kind.List ∷ [])) f.fits in
       record { made = f.made; makes_it = both.0; uses_it = both.1 }
@@ -566,65 +560,62 @@ module _ (line name of : ℕ) where
 
   pub view_ready : (p : Planner) → IsReady p viewing → IsViewReady p
   view_ready p r =
-      let b = r.1 in
-      let g = setting r.0 b.table in
-      let s = state_at r.0 b.table b.n in
-      let u = view_used r.0 b.table b.n b.step in
+      let b = r.2 in
+      let u = view_used b.step in
       record {
-        of_in = within p g b.begun b.n s b.found b.stands of (used_below r.0 b.table b.n viewing b.step u.made of (kind.List ∷ []) u.uses_it);
-        name_in = within p g b.begun b.n s b.found b.stands name (made_below r.0 b.table b.n viewing b.step u.made name kind.View u.makes_it);
-        there = are_there p g b.begun b.n s b.found b.stands;
+        of_in = within b.stands of (used_below b.step u.made of (kind.List ∷ []) u.uses_it);
+        name_in = within b.stands name (made_below b.step u.made name kind.View u.makes_it);
+        there = are_there b.stands;
       }
 
-  module _ (p : Planner) (script : Script) (table : Table) (begun : ScriptState) (n : ℕ) (found : List ℕ) (step : IsStep script table n viewing)
-      (st : Stands p (setting script table) begun n (state_at script table n) found)
-      (v : Value) (h : slice_get p.world.values.items of ≡ Some v) (alive : is_alive (state_at script table n) ((state_at script table n).values of)
-      ≡ true) where
+  module _ {script : Script} {table : Table} {p : Planner} (b : IsBefore script table p viewing) (v : Value)
+      (h : slice_get p.world.values.items of ≡ Some v) (alive : is_alive (state_at script table b.n) ((state_at script table b.n).values of) ≡ true) where
+    open b use {n, step, stands as st}
+
     list_source : IsWholeAt p (state_at script table n) v
     list_source =
         let s = state_at script table n in
-        let u = view_used script table n step in
+        let u = view_used step in
         let used = is_used (record { kinds = step.accepted.kinds; made = u.made }) of (kind.List ∷ []) u.uses_it in
         let stands = st.knows.names.are of v h in
         let is = one_kind used.kind kind.List used.fits in
-        whole_at p s used.kind v (λ e. cc) (λ e. cc)
-        (subst (IsOfKind s used.kind) (sym stands) ((holds_kinds script table n viewing step).names of used.kind used.at))
+        whole_at p s used.kind v (λ e. cc) (λ e. cc) (subst (IsOfKind s used.kind) (sym stands) ((holds_kinds step).names of used.kind used.at))
         (ap (is_alive s) stands ∙ alive) (st.knows.names.there of v h)
 
-  pub view_source : (p : Planner) → IsReady p viewing → (b : Bool) → IsGone p.world of b → b ≡ false → (v : Value) → slice_get p.world.values.items of ≡ Some v
+  pub view_source : (p : Planner) → IsReady p viewing → (dead : Bool) → IsGone p.world of dead → dead ≡ false → (v : Value)
+      → slice_get p.world.values.items of ≡ Some v
       → IsWholeAlive p.world.safety p.world.containers.items v
-  view_source p r b gone is v h =
-      let i = r.1 in
-      let s = state_at r.0 i.table i.n in
-      let a = alive_by s of b (gone (setting r.0 i.table) s i.found i.stands.knows) is in
-      let l = list_source p r.0 i.table i.begun i.n i.found i.step i.stands v h a in
+  view_source p r dead gone is v h =
+      let i = r.2 in
+      let s = state_at r.0 r.1 i.n in
+      let a = alive_by s of dead (gone (setting r.0 r.1) s i.found i.stands.knows) is in
+      let l = list_source i v h a in
       let slot = state_of p.world.safety l.it.slot.0 in
       let live = (and_parts slot.live _ ((i.stands.knows.containers.each l.c l.it l.has).alive ∙ l.alive)).0 in
       subst (IsWholeAlive p.world.safety p.world.containers.items) (sym l.is) (subst (IsLiveSlot p.world.safety) (sym l.has) live)
 
-  pub view_refused : (p m : Planner) (w : World) (b : Bool) → IsGone p.world of b → b ≡ true
+  pub view_refused : (p m : Planner) (w : World) (dead : Bool) → IsGone p.world of dead → dead ≡ true
       → IsPushed p m (record { line = line; name = of; act = Say Disposed })
       → IsRenamed m.world w name Dead → GoesOn p (record m { world = w }) viewing
-  view_refused p m w b gone is i e script table begun n found step st =
+  view_refused p m w dead gone is i e script table b =
       let g = setting script table in
-      let s = state_at script table n in
-      let u = view_used script table n step in
-      said_dead script table begun n found viewing step (refused Disposed of) p st
-      (view_decided g s ∙ ap unless_alive (dead_by s of b (gone g s found st.knows) is))
-      (used_below script table n viewing step u.made of (kind.List ∷ []) u.uses_it) m w name refl refl refl (inr (λ c. refl)) i e
+      let s = state_at script table b.n in
+      let u = view_used b.step in
+      said_dead b (refused Disposed of) (view_decided g s ∙ ap unless_alive (dead_by s of dead (gone g s b.found b.stands.knows) is))
+      (used_below b.step u.made of (kind.List ∷ []) u.uses_it) m w name refl refl refl (inr (λ c. refl)) i e
 
-  pub viewed : (p : Planner) (w : World) (b : Bool) → IsGone p.world of b → b ≡ false → (v : Value) → slice_get p.world.values.items of ≡ Some v
+  pub viewed : (p : Planner) (w : World) (dead : Bool) → IsGone p.world of dead → dead ≡ false → (v : Value) → slice_get p.world.values.items of ≡ Some v
       → IsRenamed p.world w name (view_by p.world.safety p.world.containers.items v) → GoesOn p (record p { world = w }) viewing
-  viewed p w b gone is v h e script table begun n found step st =
+  viewed p w dead gone is v h e script table b =
       let g = setting script table in
-      let s = state_at script table n in
-      let a = alive_by s of b (gone g s found st.knows) is in
-      let l = list_source p script table begun n found step st v h a in
-      let k = st.knows.containers.each l.c l.it l.has in
+      let s = state_at script table b.n in
+      let a = alive_by s of dead (gone g s b.found b.stands.knows) is in
+      let l = list_source b v h a in
+      let k = b.stands.knows.containers.each l.c l.it l.has in
       let now : view_by p.world.safety p.world.containers.items v ≡ View l.c (s.view l.c) =
       ap (view_by p.world.safety p.world.containers.items) l.is ∙ ap (λ o. view_of l.c (view_number p.world.safety o)) l.has ∙ ap (View l.c) (k.view l.alive) in
-      let at : l.c ≡ container_at s of = ap states.container_of (sym (ap (value_for p.world.handles.items) l.is) ∙ st.knows.names.are of v h) in
-      renamed_on script table begun n found viewing step p w name st (view_decided g s ∙ ap unless_alive a) (refl, tt) (View l.c (s.view l.c))
+      let at : l.c ≡ container_at s of = ap states.container_of (sym (ap (value_for p.world.handles.items) l.is) ∙ b.stands.knows.names.are of v h) in
+      renamed_on b w name (view_decided g s ∙ ap unless_alive a) (refl, tt) (View l.c (s.view l.c))
       (states.View (container_at s of) (s.view (container_at s of))) refl
       (subst (IsRenamed p.world w name) now e) (get_below p.world.containers.items l.c l.it l.has) (λ k e. absurd cc) (ap (λ c. states.View c (s.view c)) at)
 
@@ -640,20 +631,20 @@ module _ (line name : ℕ) (of : Vec ℕ Global) where
   abbrev combining : Statement
   combining = record { line = line; act = CombineOf name of }
 
-  record IsCombined (script : Script) (table : Table) (n : ℕ) (step : IsStep script table n combining) : Type 0 where
+  record IsCombined {script : Script} {table : Table} {n : ℕ} (step : IsStep script table n combining) : Type 0 where
     made : ℕ
     makes_it : makes (record { kinds = step.accepted.kinds; made = made }) name kind.Handle ≡ true
     below : (k d : ℕ) → k < length of.items → get_or of.items k d < length (setting script table).names
 
-  combine_used : (script : Script) (table : Table) (n : ℕ) (step : IsStep script table n combining) → IsCombined script table n step
-  combine_used script table n step =
-      let f = fits_at script table n combining step in
+  combine_used : {script : Script} {table : Table} {n : ℕ} (step : IsStep script table n combining) → IsCombined step
+  combine_used {script} {table} step =
+      let f = fits_at step in
       let ns : Names = record { kinds = step.accepted.kinds; made = f.made } in
       let both = and_parts (makes ns name kind.Handle) (all_used ns of.items) f.fits in
       record {
         made = f.made;
         makes_it = both.0;
-        below = all_below ns (length (setting script table).names) (λ m is. used_below script table n combining step f.made m (kind.Handle ∷ []) is) of.items
+        below = all_below ns (length (setting script table).names) (λ m is. used_below step f.made m (kind.Handle ∷ []) is) of.items
             both.1;
       }
 
@@ -665,35 +656,31 @@ module _ (line name : ℕ) (of : Vec ℕ Global) where
 
   pub combine_ready : (p : Planner) → IsReady p combining → IsCombineReady p
   combine_ready p r =
-      let b = r.1 in
-      let g = setting r.0 b.table in
-      let s = state_at r.0 b.table b.n in
-      let u = combine_used r.0 b.table b.n b.step in
+      let b = r.2 in
+      let u = combine_used b.step in
       record {
-        of_in = λ k d lt. within p g b.begun b.n s b.found b.stands (get_or of.items k d) (u.below k d lt);
-        name_in = within p g b.begun b.n s b.found b.stands name (made_below r.0 b.table b.n combining b.step u.made name kind.Handle u.makes_it);
-        there = are_there p g b.begun b.n s b.found b.stands;
-        few = (let le = b.stands.numbers.handles_few in let lt = statements_few r.0 b.table b.n combining b.step in let len = p.world.handles.ok.0 in
+        of_in = λ k d lt. within b.stands (get_or of.items k d) (u.below k d lt);
+        name_in = within b.stands name (made_below b.step u.made name kind.Handle u.makes_it);
+        there = are_there b.stands;
+        few = (let le = b.stands.numbers.handles_few in let lt = statements_few b.step in let len = p.world.handles.ok.0 in
             let most : MOST_STATEMENTS ≤ 1048576 = omega arith in omega arith);
       }
 
   pub combined : (p : Planner) (w : World) (jobs : Handle) → ((j : ℕ) → jobs_of jobs j ≡ jobs_by p.world.handles.items p.world.values.items of.items j)
       → HasHandle p.world w name (jobs_of jobs) → GoesOn p (record p { world = w }) combining
-  combined p w jobs are e script table begun n found step st =
-      let g = setting script table in
-      let s = state_at script table n in
-      let u = combine_used script table n step in
+  combined p w jobs are e script table b =
+      let s = state_at script table b.n in
+      let u = combine_used b.step in
       let same : jobs_of jobs ≡ jobs_named s of.items =
-      λ i j. (are j ∙ jobs_are p s (length p.world.containers.items) st.knows.names of.items
-      (λ k d lt. let b = u.below k d lt in let l = st.knows.each in omega arith) j) i in
-      handle_on script table begun n found combining step p w name st refl (refl, tt) (jobs_named s of.items) refl (subst (HasHandle p.world w name) same e)
+      λ i j. (are j ∙ jobs_are p s (length p.world.containers.items) b.stands.knows.names of.items
+      (λ k d lt. let low = u.below k d lt in let l = b.stands.knows.each in omega arith) j) i in
+      handle_on b w name refl (refl, tt) (jobs_named s of.items) refl (subst (HasHandle p.world w name) same e)
 
 -- ---- `flush`
 
 pub flushed : (line : ℕ) (p : Planner) → GoesOn p p (record { line = line; act = FlushAll })
-flushed line p script table begun n found step st =
+flushed line p script table b =
     let g = setting script table in
-    let s = state_at script table n in
-    accepted_on script table begun n found (record { line = line; act = FlushAll }) step p p st refl (refl, tt) refl
-    (calm p p g begun n s s found st refl refl refl refl refl st.numbers.passing refl (omega arith) (omega arith))
-    st.knows.names (λ y a. st.planned y a)
+    let s = state_at script table b.n in
+    accepted_on b p refl (refl, tt) refl (calm b.stands refl refl refl refl refl b.stands.numbers.passing refl (omega arith) (omega arith))
+    b.stands.knows.names (λ y a. b.stands.planned y a)

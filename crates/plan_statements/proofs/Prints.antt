@@ -11,7 +11,7 @@ use Rattle.frame_ast.specs.Orders.{setting}
 use Rattle.kernel_exec.specs.declared.binds.Bind.{Bind}
 use Rattle.frame_core.specs.declared.plan.Act.TheVariants.{Say, Print}
 use Rattle.frame_core.specs.declared.plan.Op.{Op}
-use Rattle.plan_laws.proofs.Printing.{allowed, prints_are_planned}
+use Rattle.plan_laws.proofs.Statements.Printing.{allowed, prints_are_planned}
 use Rattle.plan_state.specs.declared.state.Value.{Value}
 use Rattle.plan_state.specs.declared.state.Planner.{Planner}
 use Rattle.plan_state.specs.Accesses.{bind_by, AreThere, IsPushed, MayUse}
@@ -30,41 +30,36 @@ module _ (line name : ℕ) where
   pub print_ready : (p : Planner) → IsReady p print → (name < vec_len p.world.values)
       × AreThere (vec_len p.world.containers) (vec_len p.world.handles) p.world.values.items
   print_ready p r =
-      let b = r.1 in
-      let g = setting r.0 b.table in
-      let s = state_at r.0 b.table b.n in
-      let f = fits_at r.0 b.table b.n print b.step in
-      let below = used_below r.0 b.table b.n print b.step f.made name CONTAINERS f.fits in
-      (within p g b.begun b.n s b.found b.stands name below, are_there p g b.begun b.n s b.found b.stands)
+      let b = r.2 in
+      let f = fits_at b.step in
+      let below = used_below b.step f.made name CONTAINERS f.fits in
+      (within b.stands name below, are_there b.stands)
 
   pub print_refused : (p q : Planner) (cause : Refusal) → MayUse p.world name false (Some cause)
       → IsPushed p q (record { line = line; name = name; act = Say cause })
       → GoesOn p q print
-  print_refused p q cause may i script table begun n found step st =
+  print_refused p q cause may i script table b =
       let g = setting script table in
-      let f = fits_at script table n print step in
-      said script table begun n found print step (record { cause = cause; name = name }) p st
-      (sym (may g (state_at script table n) found st.knows))
-      (used_below script table n print step f.made name CONTAINERS f.fits) q refl refl (inr (λ c. refl)) i
+      let f = fits_at b.step in
+      said b (record { cause = cause; name = name }) (sym (may g (state_at script table b.n) b.found b.stands.knows))
+      (used_below b.step f.made name CONTAINERS f.fits) q refl refl (inr (λ c. refl)) i
 
   pub print_shown : (p q : Planner) (v : Value) (at : Bind) → MayUse p.world name false None → slice_get p.world.values.items name ≡ Some v
       → at ≡ bind_by p.world.containers.items v
       → IsPushed p q (record { line = line; name = name; act = Print at }) → GoesOn p q print
-  print_shown p q v at may value is i script table begun n found step st =
+  print_shown p q v at may value is i script table b =
       let g = setting script table in
-      let s = state_at script table n in
+      let s = state_at script table b.n in
       let t = effect g line s (PrintOf name) in
-      let none : refusal g s (PrintOf name) ≡ None = sym (may g s found st.knows) in
-      let f = fits_at script table n print step in
-      let below = used_below script table n print step f.made name CONTAINERS f.fits in
-      let u = usable script table n print step f.made name CONTAINERS f.fits (allowed s name false none).alive in
+      let none : refusal g s (PrintOf name) ≡ None = sym (may g s b.found b.stands.knows) in
+      let f = fits_at b.step in
+      let below = used_below b.step f.made name CONTAINERS f.fits in
+      let u = usable b.step f.made name CONTAINERS f.fits (allowed s name false none).alive in
       let op : Op = record { line = line; name = name; act = Print at } in
-      let restates = pushed_restates p q op g begun n s t found st i refl refl refl (λ c start below. refl) in
-      accepted_on script table begun n found print step p q st none (refl, tt)
-      (given_one p.draft.ops.items q.draft.ops.items op i.ops refl)
-      restates
-      (pushed_names p q op _ s t i refl st.knows.names)
-      (λ y a. prints_are_planned y g s line name (draft_of p) (draft_of q) a.small st.knows.known (st.planned y a) none u (name_short g y name a.names below)
-      (name_is g y name a.names)
+      let restates = pushed_restates {t = t} b.stands i refl refl refl (λ c start below. refl) in
+      accepted_on b q none (refl, tt) (given_one p.draft.ops.items q.draft.ops.items op i.ops refl) restates
+      (pushed_names p q op _ s t i refl b.stands.knows.names)
+      (λ y a. prints_are_planned y g s line name (draft_of p) (draft_of q) a.small b.stands.knows.known (b.stands.planned y a) none u
+      (name_short g y name a.names below) (name_is g y name a.names)
       (adds_op p q _ restates.planner (i.ops ∙ ap (λ b. p.draft.ops.items ++ record { line = line; name = name; act = Print b } ∷ [])
-      (is ∙ binds_at p g begun n s found st y a name v value u))))
+      (is ∙ binds_at b.stands y a name v value u))))

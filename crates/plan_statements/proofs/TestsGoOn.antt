@@ -81,24 +81,22 @@ module _ (p : Planner) (line name : ℕ) (sign : Sign) (value : ℤ) (count : �
   abbrev statement : Statement
   statement = record { line = line; act = When name sign value count }
 
-  test_below : (script : Script) (table : Table) (n : ℕ) → IsStep script table n statement → name < length (setting script table).names
-  test_below script table n step =
-      let fits : FitsThere (setting script table) step.accepted.kinds statement.act = fits_at script table n statement step in
-      used_below script table n statement step fits.made name (kind.Reference ∷ [])
+  test_below : {script : Script} {table : Table} {n : ℕ} → IsStep script table n statement → name < length (setting script table).names
+  test_below {script} {table} step =
+      let fits : FitsThere (setting script table) step.accepted.kinds statement.act = fits_at step in
+      used_below step fits.made name (kind.Reference ∷ [])
       (and_parts (uses (record { kinds = step.accepted.kinds; made = fits.made }) name (kind.Reference ∷ []))
       (nat_le count fits.rest && nat_eq fits.inside 0) fits.fits).0
 
   pub test_ready : IsReady p statement → (name < vec_len p.world.values) × AreThere (vec_len p.world.containers) (vec_len p.world.handles) p.world.values.items
   test_ready ready =
-      let b = ready.1 in
-      let g = setting ready.0 b.table in
-      let s = state_at ready.0 b.table b.n in
-      (within p g b.begun b.n s b.found b.stands name (test_below ready.0 b.table b.n b.step), are_there p g b.begun b.n s b.found b.stands)
+      let b = ready.2 in
+      (within b.stands name (test_below b.step), are_there b.stands)
 
   pub test_refused : (m : Planner) (cause : Refusal) → IsTestRefusal p.world name (Some cause)
       → IsPushed p m (record { line = line; name = name; act = Say cause })
       → GoesOn p (record m { world = record m.world { passing = count } }) statement
-  test_refused m cause answer i script table begun n found step st =
-      said_passing script table begun n found statement step (record { cause = cause; name = name }) p st
-      (sym (answer (setting script table) (state_at script table n) found st.knows)) (test_below script table n step) m
+  test_refused m cause answer i script table b =
+      said_passing b (record { cause = cause; name = name })
+      (sym (answer (setting script table) (state_at script table b.n) b.found b.stands.knows)) (test_below b.step) m
       (record m { world = record m.world { passing = count } }) count refl refl (inr (λ c. refl)) i refl

@@ -216,7 +216,7 @@ module _ (w : World) (k : ℕ) (tag : Tag) (is : Some tag ≡ tag_in w.container
       ) j
       ∙ ap (λ f. automatic b uses f (need ∷ []) j) none)
 
-module _ (p : Planner) (g : Setting) (begun : ScriptState) (n : ℕ) (s : ScriptState) (found : List ℕ) (st : Stands p g begun n s found) (name c : ℕ)
+module _ {p : Planner} {g : Setting} {begun : ScriptState} {n : ℕ} {s : ScriptState} {found : List ℕ} (st : Stands p g begun n s found) (name c : ℕ)
     (live : IsLiveAt p.world s name c) where
   it : (i : Container) × (slice_get p.world.containers.items c ≡ Some i)
   it = there p.world.containers.items c live.below
@@ -249,13 +249,13 @@ module _ (p : Planner) (line name handle : ℕ) where
   abbrev ending : Statement
   ending = record { line = line; act = DisposeAuto name handle }
 
-  ending_fits : (script : Script) (table : Table) (n : ℕ) → IsStep script table n ending
+  ending_fits : {script : Script} {table : Table} {n : ℕ} → IsStep script table n ending
       → (name < length (setting script table).names) × (handle < length (setting script table).names)
-  ending_fits script table n step =
-      let fits : FitsThere (setting script table) step.accepted.kinds ending.act = fits_at script table n ending step in
+  ending_fits {script} {table} step =
+      let fits : FitsThere (setting script table) step.accepted.kinds ending.act = fits_at step in
       let both = and_parts (uses (record { kinds = step.accepted.kinds; made = fits.made }) name DISPOSABLE)
       (makes (record { kinds = step.accepted.kinds; made = fits.made }) handle kind.Handle) fits.fits in
-      (used_below script table n ending step fits.made name DISPOSABLE both.0, made_below script table n ending step fits.made handle kind.Handle both.1)
+      (used_below step fits.made name DISPOSABLE both.0, made_below step fits.made handle kind.Handle both.1)
 
   pub record CanEndWaiting : Type 0 where
     pub name_in : name < vec_len p.world.values
@@ -267,53 +267,51 @@ module _ (p : Planner) (line name handle : ℕ) where
 
   pub ending_ready : IsReady p ending → CanEndWaiting
   ending_ready ready =
-      let b = ready.1 in
-      let g = setting ready.0 b.table in
-      let s = state_at ready.0 b.table b.n in
-      let fits = ending_fits ready.0 b.table b.n b.step in
+      let b = ready.2 in
+      let g = setting ready.0 ready.1 in
+      let s = state_at ready.0 ready.1 b.n in
+      let fits = ending_fits b.step in
       record {
-        name_in = within p g b.begun b.n s b.found b.stands name fits.0;
-        handle_in = within p g b.begun b.n s b.found b.stands handle fits.1;
-        there = are_there p g b.begun b.n s b.found b.stands;
-        few = (let few = b.stands.numbers.handles_few in let most = statements_few ready.0 b.table b.n ending b.step in let len = p.world.handles.ok.0 in
+        name_in = within b.stands name fits.0;
+        handle_in = within b.stands handle fits.1;
+        there = are_there b.stands;
+        few = (let few = b.stands.numbers.handles_few in let most = statements_few b.step in let len = p.world.handles.ok.0 in
             omega arith);
-        known = λ c live. users_are_known p g b.begun b.n s b.found b.stands name c (live g s b.found b.stands.knows);
+        known = λ c live. users_are_known b.stands name c (live g s b.found b.stands.knows);
         holds = λ c live. let l = live g s b.found b.stands.knows in
-            can_hold p g b.begun b.n s b.found b.stands (let few = statements_few ready.0 b.table b.n ending b.step in omega arith) c l.below
-            (alive_c p g b.begun b.n s b.found b.stands name c l);
+            can_hold b.stands (let few = statements_few b.step in omega arith) c l.below (alive_c b.stands name c l);
       }
 
   pub ending_says : (m : Planner) (w : World) → IsLive p.world name None → IsPushed p m (record { line = line; name = name; act = Say Disposed })
       → HasHandle m.world w handle nobody
       → GoesOn p (record m { world = w }) ending
-  ending_says m w gone i e script table begun n found step st =
-      let s = state_at script table n in
-      said_nobody script table begun n found ending step (record { cause = Disposed; name = name }) p st
-      (ap (λ a. option_map (refused Disposed) (cond (not a) (Some name) None)) (gone (setting script table) s found st.knows))
-      (ending_fits script table n step).0 m w handle refl refl refl (inr (λ c. refl)) i e
+  ending_says m w gone i e script table b =
+      let s = state_at script table b.n in
+      said_nobody b (record { cause = Disposed; name = name })
+      (ap (λ a. option_map (refused Disposed) (cond (not a) (Some name) None)) (gone (setting script table) s b.found b.stands.knows))
+      (ending_fits b.step).0 m w handle refl refl refl (inr (λ c. refl)) i e
 
   pub ending_goes : (m last : World) (jobs : Jobs) (c : ℕ) → IsLive p.world name (Some c) → AreWaitedFor p.world (slice_get p.world.containers.items c) jobs
       → IsHeldBack p.world m c
       → HasHandle m last handle jobs → GoesOn p (record p { world = last }) ending
-  ending_goes m last jobs c live w i e script table begun n found step st =
+  ending_goes m last jobs c live w i e script table b =
       let g = setting script table in
-      let s = state_at script table n in
-      let l = live g s found st.knows in
+      let s = state_at script table b.n in
+      let l = live g s b.found b.stands.knows in
       let none : refusal g s ending.act ≡ None = ap (λ a. option_map (refused Disposed) (cond (not a) (Some name) None)) l.alive in
-      held_on script table begun n found ending step p st name handle jobs (alive_container s (s.values name) l.alive) m last
-      (subst (IsHeldBack p.world m) (sym l.at) i) e
-      (accepted_state g s ending step.acts none ∙ ap (λ js. with_name handle (states.Handle js) (dispose name s))
-      (sym (set_is p g begun n s found st name c l jobs w))) (refl, tt)
+      held_on b name handle jobs (alive_container s (s.values name) l.alive) m last (subst (IsHeldBack p.world m) (sym l.at) i) e
+      (accepted_state g s ending b.step.acts none ∙ ap (λ js. with_name handle (states.Handle js) (dispose name s))
+      (sym (set_is b.stands name c l jobs w))) (refl, tt)
 
 -- ---- `complete auto`
 module _ (p : Planner) (line name : ℕ) where
   abbrev completing : Statement
   completing = record { line = line; act = CompleteAuto name }
 
-  completing_below : (script : Script) (table : Table) (n : ℕ) → IsStep script table n completing → name < length (setting script table).names
-  completing_below script table n step =
-      let fits : FitsThere (setting script table) step.accepted.kinds completing.act = fits_at script table n completing step in
-      used_below script table n completing step fits.made name CONTAINERS fits.fits
+  completing_below : {script : Script} {table : Table} {n : ℕ} → IsStep script table n completing → name < length (setting script table).names
+  completing_below {script} {table} step =
+      let fits : FitsThere (setting script table) step.accepted.kinds completing.act = fits_at step in
+      used_below step fits.made name CONTAINERS fits.fits
 
   pub record CanCompleteAuto : Type 0 where
     pub name_in : name < vec_len p.world.values
@@ -326,36 +324,35 @@ module _ (p : Planner) (line name : ℕ) where
 
   pub completing_ready : IsReady p completing → CanCompleteAuto
   completing_ready ready =
-      let b = ready.1 in
-      let g = setting ready.0 b.table in
-      let s = state_at ready.0 b.table b.n in
+      let b = ready.2 in
+      let g = setting ready.0 ready.1 in
+      let s = state_at ready.0 ready.1 b.n in
       record {
-        name_in = within p g b.begun b.n s b.found b.stands name (completing_below ready.0 b.table b.n b.step);
-        there = are_there p g b.begun b.n s b.found b.stands;
-        before = section_low p ready.0 b.table b.begun b.n s b.found b.stands;
-        users = users_known p ready.0 b.table b.begun b.n s b.found b.stands;
-        known = λ c may. users_are_known p g b.begun b.n s b.found b.stands name c (may g s b.found b.stands.knows).1;
+        name_in = within b.stands name (completing_below b.step);
+        there = are_there b.stands;
+        before = section_low b;
+        users = users_known b;
+        known = λ c may. users_are_known b.stands name c (may g s b.found b.stands.knows).1;
         jobs = λ c may jobs w. let l = (may g s b.found b.stands.knows).1 in
-            subst (AreUpTo (count_of p.world.jobs)) (sym (set_is p g b.begun b.n s b.found b.stands name c l jobs w))
+            subst (AreUpTo (count_of p.world.jobs)) (sym (set_is b.stands name c l jobs w))
             (subst (λ m. AreUpTo m (automatic s.book s.uses nobody (need_of s name true ∷ []))) (sym b.stands.knows.jobs.count)
-            (set_known p g b.begun b.n s b.found b.stands name c l));
+            (set_known b.stands name c l));
       }
 
   pub completing_says : (q : Planner) (cause : Refusal) → IsCompletable p.world name (Err cause)
       → IsPushed p q (record { line = line; name = name; act = Say cause })
       → GoesOn p q completing
-  completing_says q cause may i script table begun n found step st =
-      said script table begun n found completing step (record { cause = cause; name = name }) p st
-      (sym (may (setting script table) (state_at script table n) found st.knows).0) (completing_below script table n step) q refl refl (inr (λ c. refl)) i
+  completing_says q cause may i script table b =
+      said b (record { cause = cause; name = name })
+      (sym (may (setting script table) (state_at script table b.n) b.found b.stands.knows).0) (completing_below b.step) q refl refl (inr (λ c. refl)) i
 
   pub completing_goes : (w : World) (draft : Draft) (answer : Answer) (jobs : Jobs) (c : ℕ) → IsCompletable p.world name (Ok c)
       → AreWaitedFor p.world (slice_get p.world.containers.items c) jobs
       → IsCompletion p.world w jobs answer → HasTaken p.draft draft line answer → GoesOn p (record p { world = w; draft = draft }) completing
-  completing_goes w draft answer jobs c may wait done took script table begun n found step st =
+  completing_goes w draft answer jobs c may wait done took script table b =
       let g = setting script table in
-      let s = state_at script table n in
-      let m = may g s found st.knows in
-      completion_on script table begun n found completing step p st (automatic s.book s.uses nobody (need_of s name true ∷ []))
-      (set_known p g begun n s found st name c m.1) w draft answer
-      (subst (λ js. IsCompletion p.world w js answer) (set_is p g begun n s found st name c m.1 jobs wait) done) took
-      (accepted_state g s completing step.acts (sym m.0)) (refl, tt)
+      let s = state_at script table b.n in
+      let m = may g s b.found b.stands.knows in
+      completion_on b (automatic s.book s.uses nobody (need_of s name true ∷ [])) (set_known b.stands name c m.1) w draft answer
+      (subst (λ js. IsCompletion p.world w js answer) (set_is b.stands name c m.1 jobs wait) done) took
+      (accepted_state g s completing b.step.acts (sym m.0)) (refl, tt)

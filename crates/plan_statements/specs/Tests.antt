@@ -3,10 +3,11 @@ use Rattle.std.specs.Prelude.{ℕ, ◌≡◌, ◌≢◌, not, List, [], ◌∷�
 use Rattle.job_base.specs.declared.JobId.{JobId}
 use Rattle.job_base.specs.declared.Refusal.{Refusal}
 use Rattle.frame_ast.specs.declared.script.Order.{Order}
+use Rattle.frame_ast.specs.declared.script.Script.{Script}
 use Rattle.frame_ast.specs.Checks.{refusal}
 use Rattle.frame_ast.specs.Jobs.{Book, greatest}
 use Rattle.frame_ast.specs.Lists.{first_some}
-use Rattle.frame_ast.specs.Orders.{Setting, setting}
+use Rattle.frame_ast.specs.Orders.{Table, Setting, setting}
 use Rattle.frame_ast.specs.Refusals.{disposed, busy}
 use Rattle.frame_ast.specs.States.{ScriptState}
 use Rattle.job_handle.specs.declared.book.JobBook.{JobBook}
@@ -18,7 +19,7 @@ use Rattle.plan_state.specs.declared.state.World.{World}
 use Rattle.plan_state.specs.Accesses.{refused_as}
 use Rattle.plan_state.specs.Stands.{Knows}
 use Rattle.plan_state.specs.Answers.{Answers}
-use Rattle.plan_state.specs.Steps.{state_at, AtStatement}
+use Rattle.plan_state.specs.Steps.{state_at, IsBefore}
 
 -- An answer is the cause for which the value of a name can't be tested now.
 abbrev pub IsTestRefusal : World → ℕ → Option Refusal → Type 0
@@ -34,15 +35,15 @@ IsLatestRunning book answer = (b : Book)
 
 -- A statement isn't refused, of whichever planner with this world.
 abbrev pub Acts : World → Order → Type 0
-Acts w x = (line : ℕ) (p : Planner)
-    → AtStatement (record p { world = w }) (record { line = line; act = x }) (λ script table begun n found.
-    refusal (setting script table) (state_at script table n) x ≡ None)
+Acts w x = (line : ℕ) (p : Planner) (script : Script) (table : Table)
+    (b : IsBefore script table (record p { world = w }) (record { line = line; act = x }))
+    → refusal (setting script table) (state_at script table b.n) x ≡ None
 
 -- it is refused
 abbrev pub IsRefused : World → Order → Type 0
-IsRefused w x = (line : ℕ) (p : Planner)
-    → AtStatement (record p { world = w }) (record { line = line; act = x }) (λ script table begun n found.
-    refusal (setting script table) (state_at script table n) x ≢ None)
+IsRefused w x = (line : ℕ) (p : Planner) (script : Script) (table : Table)
+    (b : IsBefore script table (record p { world = w }) (record { line = line; act = x }))
+    → refusal (setting script table) (state_at script table b.n) x ≢ None
 
 -- Where a statement is refused there is an answer, and else all is as it was.
 abbrev pub IsDecided : World → World → Order → Option Answer → Type 0

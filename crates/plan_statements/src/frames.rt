@@ -5,7 +5,7 @@ ghost use Rattle.frame_ast.specs.declared.script.Script.{Script};
 ghost use Rattle.frame_ast.specs.Orders.{Table};
 ghost use Rattle.plan_state.specs.declared.state.Planner.{Planner};
 ghost use Rattle.plan_state.specs.Answers.{AnswersIn};
-ghost use Rattle.plan_state.specs.Steps.{IsBefore};
+ghost use Rattle.plan_state.specs.Steps.{IsReady};
 ghost use Rattle.plan_statements.specs.Frames.{AreOver, AreReported, AreSmall, HaveRoom, IsNextDue, IsOver, IsReported};
 
 use crate::disposing::give_back;
@@ -16,7 +16,7 @@ use std::alloc::Global;
 
 /// `frame`: what is overdue from now on is reported, and the `temp` containers end.
 pub fn frame(world: &mut World, alloc: Global, line: u32) -> Result<Answer, NoMemory>
-    requires ready { (script : Script) × (p : Planner) × IsBefore script (record p { world = world.old })
+    requires ready { (p : Planner) × IsReady (record p { world = world.old })
         (record { line = line; act = FrameOf }) }
     ensures answers { IfOk result (λ answer. (script : Script) (table : Table)
         → AnswersIn script table world.old world.new (record { line = line; act = FrameOf }) answer) }

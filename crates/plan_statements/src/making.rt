@@ -6,7 +6,7 @@ ghost use Rattle.frame_ast.specs.Orders.{Table as Columns};
 ghost use Rattle.plan_statements.specs.Tables.{columns_of};
 ghost use Rattle.plan_state.specs.declared.state.Planner.{Planner};
 ghost use Rattle.plan_state.specs.Answers.{AnswersIn, ExceedsIn};
-ghost use Rattle.plan_state.specs.Steps.{IsBefore};
+ghost use Rattle.plan_state.specs.Steps.{IsBefore, IsReady};
 
 use crate::containers::{copy_column, copy_literal, enter, one_value, refuse_full, take_words};
 use frame_ast::script::{Life, Script};
@@ -29,7 +29,7 @@ pub fn array(
     values: Option<u32>,
     script: &Script,
 ) -> Result<Answer, PlanFault>
-    requires ready { (p : Planner) × IsBefore script.now (record p { world = world.old })
+    requires ready { (p : Planner) × (table : Columns) × IsBefore script.now table (record p { world = world.old })
         (record { line = line; act = Array name len life values }) }
     ensures answers { IfOk result (λ answer. (table : Columns) → AnswersIn script.now table world.old world.new
         (record { line = line; act = Array name len life values }) answer) }
@@ -64,7 +64,7 @@ pub fn column(
     life: Life,
     table: &Table,
 ) -> Result<Answer, PlanFault>
-    requires ready { (script : File) × (p : Planner) × IsBefore script (record p { world = world.old })
+    requires ready { (p : Planner) × IsReady (record p { world = world.old })
         (record { line = line; act = Column name column.now life }) }
     ensures answers { IfOk result (λ answer. (script : File)
         → AnswersIn script (columns_of table.now) world.old world.new
@@ -99,7 +99,7 @@ pub fn list(
     cap: u32,
     life: Life,
 ) -> Result<Answer, PlanFault>
-    requires ready { (script : File) × (p : Planner) × IsBefore script (record p { world = world.old })
+    requires ready { (p : Planner) × IsReady (record p { world = world.old })
         (record { line = line; act = NewList name cap life }) }
     ensures answers { IfOk result (λ answer. (script : File) (table : Columns)
         → AnswersIn script table world.old world.new (record { line = line; act = NewList name cap life }) answer) }
@@ -132,7 +132,7 @@ pub fn reference(
     life: Life,
     value: Option<i64>,
 ) -> Result<Answer, PlanFault>
-    requires ready { (script : File) × (p : Planner) × IsBefore script (record p { world = world.old })
+    requires ready { (p : Planner) × IsReady (record p { world = world.old })
         (record { line = line; act = Reference name life value }) }
     ensures answers { IfOk result (λ answer. (script : File) (table : Columns)
         → AnswersIn script table world.old world.new (record { line = line; act = Reference name life value }) answer) }
@@ -164,7 +164,7 @@ pub fn map(
     cap: u32,
     life: Life,
 ) -> Result<Answer, PlanFault>
-    requires ready { (script : File) × (p : Planner) × IsBefore script (record p { world = world.old })
+    requires ready { (p : Planner) × IsReady (record p { world = world.old })
         (record { line = line; act = Map name cap life }) }
     ensures answers { IfOk result (λ answer. (script : File) (table : Columns)
         → AnswersIn script table world.old world.new (record { line = line; act = Map name cap life }) answer) }
@@ -194,7 +194,7 @@ pub fn stream(
     room: u32,
     life: Life,
 ) -> Result<Answer, PlanFault>
-    requires ready { (script : File) × (p : Planner) × IsBefore script (record p { world = world.old })
+    requires ready { (p : Planner) × IsReady (record p { world = world.old })
         (record { line = line; act = Stream name count room life }) }
     ensures answers { IfOk result (λ answer. (script : File) (table : Columns)
         → AnswersIn script table world.old world.new

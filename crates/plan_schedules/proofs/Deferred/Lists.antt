@@ -23,7 +23,7 @@ use Rattle.plan_schedules.specs.JobBinds.{bind_of_value}
 use Rattle.plan_state.specs.Stands.{jobs_at, value_for, IsThere, Stands}
 use Rattle.plan_schedules.proofs.Meaning.{some_at}
 
-module _ (p : Planner) (g : Setting) (begun : ScriptState) (n : ℕ) (s : ScriptState) (found : List ℕ) (st : Stands p g begun n s found) where
+module _ {p : Planner} {g : Setting} {begun : ScriptState} {n : ℕ} {s : ScriptState} {found : List ℕ} (st : Stands p g begun n s found) where
   -- the words of a whole list
   pub record IsList (list : ℕ) : Type 0 where
     pub at : ListAt

@@ -21,11 +21,11 @@ length_value s n = record { need = need_of s n false; kind = ListKind; is_length
 abbrev pub plain : Given → Given
 plain g = record g { is_length = false }
 
-module _ (p : Planner) (g : Setting) (begun : ScriptState) (m : ℕ) (s : ScriptState) (found : List ℕ) (st : Stands p g begun m s found) (after : Jobs) where
+module _ {p : Planner} {g : Setting} {begun : ScriptState} {m : ℕ} {s : ScriptState} {found : List ℕ} (st : Stands p g begun m s found) (after : Jobs) where
   pub length_meant : (n : ℕ) (u : NamedUse) → IsLengthUse p.world after n u → IsMeant p s after u (plain (length_value s n))
   length_meant n u is =
       let v = st.knows.names.are n is.value is.has in
-      let k = means p g begun m s found st after is.value (st.knows.names.there n is.value is.has) in
+      let k = means st after is.value (st.knows.names.there n is.value is.has) in
       let at : number_of_value is.value ≡ container_at s n = k.container ∙ ap container_of v in
       record {
         given = λ i. record {
@@ -36,7 +36,7 @@ module _ (p : Planner) (g : Setting) (begun : ScriptState) (m : ℕ) (s : Script
         container_is = refl;
         blocked =
             k.blocked false u.blocked (subst (λ o. IsBlockedBy p.world after o false u.blocked) is.tag is.blocked)
-            ∙ (λ i. refused_value p g begun m s found st after (v i) false);
+            ∙ (λ i. refused_value st after (v i) false);
         temp = λ alive.
             is.temp ∙ k.temp (ap (is_alive s) v ∙ alive) ∙ ap (λ c. is_temp (s.life c)) at;
         known_by = λ alive.

@@ -39,7 +39,7 @@ use Rattle.plan_schedules.specs.Starting.{AreDeps, IsFull, IsInBooks, IsStartOf}
 use Rattle.plan_schedules.specs.declared.accepting.Run.{Run}
 use Rattle.plan_state.specs.Copies.{IsKernelChecked, IsKernelGuardable, MayBeGuarded}
 use Rattle.plan_state.specs.Starts.{HasTakenJob, MayStart, MayTakeJob}
-use Rattle.plan_state.specs.Steps.{state_at, state_after, IsStep, StandsAt, HasStepped, PassesLimit}
+use Rattle.plan_state.specs.Steps.{state_at, state_after, IsBefore, HasStepped, PassesLimit}
 use Rattle.plan_schedules.specs.Uses.{ForNames, IsUse, IsNameBelow, tags_of}
 use Rattle.plan_schedules.proofs.Meaning as meaning
 use Rattle.plan_schedules.proofs.Deferred.Meaning as lengths
@@ -59,20 +59,21 @@ use Rattle.plan_state.proofs.Restating.{accepted_state, said_nobody}
 use Rattle.plan_schedules.proofs.Texts.{all_below, each_lower}
 use Rattle.frame_ast.specs.declared.script.NewJob.{NewJob}
 
-module _ (script : Script) (table : Table) (begun : ScriptState) (n : ℕ) (found : List ℕ) (line : ℕ) (home : Box NewJob Global) (asked : NewJob)
-    (list batch : ℕ) where
-  abbrev g : Setting
-  g = setting script table
-
-  abbrev s : ScriptState
-  s = state_at script table n
-
+module _ (line : ℕ) (home : Box NewJob Global) (asked : NewJob) (list batch : ℕ) where
   abbrev pub x : Statement
-  x = text.x script table n line home asked list batch
+  x = text.x line home asked list batch
 
-  module _ (step : IsStep script table n x) (p : Planner) (st : StandsAt p script table begun n found) where
-    abbrev the_text : IsDeferredText script table n line home asked list batch step
-    the_text = deferred_text script table n line home asked list batch step
+  module _ {script : Script} {table : Table} {p : Planner} (b : IsBefore script table p x) where
+    open b use {n, step, stands as st}
+
+    abbrev g : Setting
+    g = setting script table
+
+    abbrev s : ScriptState
+    s = state_at script table n
+
+    abbrev the_text : IsDeferredText line home asked list batch step
+    the_text = deferred_text line home asked list batch step
 
     values_long : vec_len p.world.values ≡ length g.names
     values_long = let len = p.world.values.ok.0 in let e = st.knows.each in omega arith
@@ -104,10 +105,10 @@ module _ (script : Script) (table : Table) (begun : ScriptState) (n : ℕ) (foun
         (let e = values_long in omega arith) asked.args.items the_text.below))
 
     pub handles_few : vec_len p.world.handles < 2 ^ 32
-    handles_few = let few = st.numbers.handles_few in let lt = statements_few script table n x step in let len = p.world.handles.ok.0 in omega arith
+    handles_few = let few = st.numbers.handles_few in let lt = statements_few step in let len = p.world.handles.ok.0 in omega arith
 
     pub copies_few : vec_len p.draft.kernels < 2 ^ 32
-    copies_few = let few = st.numbers.kernels_few in let lt = statements_few script table n x step in let len = p.draft.kernels.ok.0 in omega arith
+    copies_few = let few = st.numbers.kernels_few in let lt = statements_few step in let len = p.draft.kernels.ok.0 in omega arith
 
     pub guardable : (source : Kernel) → slice_get script.kernels.items asked.kernel ≡ Some source → MayBeGuarded source
     guardable source at = subst MayBeGuarded (some_is (sym the_text.has ∙ at)) the_text.guardable
@@ -127,8 +128,8 @@ module _ (script : Script) (table : Table) (begun : ScriptState) (n : ℕ) (foun
           };
           step = r.cut_by.steps;
           indexes = r.cut_by.pieces;
-          jobs = rooms.job_room script table p begun n s found st free;
-          pieces = rooms.few_pieces script table p begun n s found st;
+          jobs = rooms.job_room b free;
+          pieces = rooms.few_pieces b;
         }))
 
     pub batch_fit : (1 ≤ batch) × (batch ≤ MOST_INDEXES)
@@ -145,7 +146,7 @@ module _ (script : Script) (table : Table) (begun : ScriptState) (n : ℕ) (foun
       named_is = λ i j.
           (are j
           ∙ jobs_are p s (length p.world.containers.items) st.knows.names names
-          (λ k d lt. let b = after_below names names_are k d lt in let len = p.world.values.ok.0 in
+          (λ k d lt. let low = after_below names names_are k d lt in let len = p.world.values.ok.0 in
           omega arith) j
           ∙ ap (λ ns. jobs_named s ns j) names_are) i
 
@@ -170,9 +171,8 @@ module _ (script : Script) (table : Table) (begun : ScriptState) (n : ℕ) (foun
           pub refusal_as : as_refused (deferred_refusal uses length_use parallel asked.auto) ≡ refusal g s x.act
           refusal_as =
               deferred_refusal_is p s (jobs_of named) uses (given_args s the_text.source.params.items asked.args.items)
-              (meaning.uses_meant p g begun n s found st (jobs_of named) the_text.source.params.items asked.args.items uses in_text)
-              length_use list (lengths.length_meant p g begun n s found st (jobs_of named) list length_use is_length) parallel
-              asked.auto asked.after.items named_is
+              (meaning.uses_meant st (jobs_of named) the_text.source.params.items asked.args.items uses in_text)
+              length_use list (lengths.length_meant st (jobs_of named) list length_use is_length) parallel asked.auto asked.after.items named_is
               ∙ (λ i. schedule_refusal s (same_parallel i) asked.auto (same_givens i) asked.after.items)
             where
               same_parallel : parallel ≡ is_parallel g asked.kernel
@@ -187,14 +187,14 @@ module _ (script : Script) (table : Table) (begun : ScriptState) (n : ℕ) (foun
           -- refused
           pub refused_on : (cause : Cause) → Some cause ≡ deferred_refusal uses length_use parallel asked.auto
               → (w : World) (draft : Draft) (answer : JobAnswer) → answer ≡ Refused cause.name cause.refusal → HasHandle p.world w asked.handle nobody
-              → HasTakenJob p.draft draft script line answer → HasStepped script table begun n found p (record { world = w; draft = draft }) x
+              → HasTakenJob p.draft draft script line answer → HasStepped b (record { world = w; draft = draft })
           refused_on cause e w draft answer says has took =
               let r : Refusing = record { cause = cause.refusal; name = cause.name } in
               let is : refusal g s x.act ≡ Some r = sym refusal_as ∙ ap as_refused (sym e) in
               let below = deferred_named (length g.names) uses length_use parallel asked.auto
               (uses_named p (jobs_of named) (length g.names) the_text.source.params.items asked.args.items uses in_text the_text.below)
               (subst (λ k. k < length g.names) (sym is_length.named) the_text.list_below) cause (sym e) in
-              said_nobody script table begun n found x step r p st is below (record p { draft = draft }) w asked.handle refl refl refl (inr (λ c. refl))
+              said_nobody b r is below (record p { draft = draft }) w asked.handle refl refl refl (inr (λ c. refl))
               (taken.is_pushed script line p draft answer cause.name cause.refusal says took) has
 
           -- accepted
@@ -203,32 +203,30 @@ module _ (script : Script) (table : Table) (begun : ScriptState) (n : ℕ) (foun
             none = sym refusal_as ∙ ap as_refused (sym open_)
 
             pub may_note_all : MayNoteAll (noted_uses uses length_use) (state_of p.world.safety)
-            may_note_all = started.may_note_all script table begun n found line home asked list batch step the_text p st uses length_use
+            may_note_all = started.may_note_all line home asked list batch b the_text uses length_use
                 (jobs_of named) named_is in_text is_length none
 
             pub list_named : Rattle.plan_schedules.specs.Deferring.IsListName p.world list
-            list_named = started.list_named script table begun n found line home asked list batch step the_text p st uses length_use
+            list_named = started.list_named line home asked list batch b the_text uses length_use
                 (jobs_of named) named_is in_text is_length none
 
             pub conflicts_up : AreUpTo (count_of p.world.jobs) (conflicting_with p.world.safety (tags_of (with_length uses length_use)))
             conflicts_up j h =
-                let needs = waiting.needs_are p g begun n s found st (jobs_of named) (with_length uses length_use) _
-                (started.meant_all script table begun n found line home asked list batch step the_text p st uses length_use
-                (jobs_of named) named_is in_text is_length none)
-                (started.alive_all script table begun n found line home asked list batch step the_text p st uses length_use
-                (jobs_of named) named_is in_text is_length none) in
+                let needs = waiting.needs_are st (jobs_of named) (with_length uses length_use) _
+                (started.meant_all line home asked list batch b the_text uses length_use (jobs_of named) named_is in_text is_length none)
+                (started.alive_all line home asked list batch b the_text uses length_use (jobs_of named) named_is in_text is_length none) in
                 let up = waiting.needs_up s.book s.uses st.knows.known.uses p.world.safety (tags_of (with_length uses length_use)) _ needs j h in
                 let e = count_is in (up.0, omega arith)
 
             module _ (deps : Jobs) (are_deps : AreDeps asked.auto (jobs_of named) p.world.jobs p.world.safety
                 (tags_of (with_length uses length_use)) deps) where
-              waits : deps ≡ Rattle.plan_laws.specs.Accepting.deps_of g s (started.o script table begun n found line home asked list batch)
-              waits = started.waits_are script table begun n found line home asked list batch step the_text p st uses length_use
+              waits : deps ≡ Rattle.plan_laws.specs.Accepting.deps_of g s (started.o line home asked list batch b)
+              waits = started.waits_are line home asked list batch b the_text uses length_use
                   (jobs_of named) named_is in_text is_length none deps are_deps
 
               pub deps_up : AreUpTo (count_of p.world.jobs) deps
               deps_up j h =
-                  let up = started.waited_up script table begun n found line home asked list batch step the_text p st uses length_use
+                  let up = started.waited_up line home asked list batch b the_text uses length_use
                   (jobs_of named) named_is in_text is_length none j (sym (ap (λ f. f j) waits) ∙ h) in
                   let e = count_is in (up.0, omega arith)
 
@@ -236,12 +234,12 @@ module _ (script : Script) (table : Table) (begun : ScriptState) (n : ℕ) (foun
                   → args ≡ asked.args.items → waived ≡ asked.waive.items → us ≡ noted_uses uses length_use
                   → IsGuardedRun script p.world asked.kernel args waived list batch run → IsInBooks p.world w asked.handle us deps
                   → IsStartOf p.world run deps answer
-                  → HasTakenJob p.draft draft script line answer → HasStepped script table begun n found p (record { world = w; draft = draft }) x
+                  → HasTakenJob p.draft draft script line answer → HasStepped b (record { world = w; draft = draft })
               accepted_on w draft run answer args waived us e f u r books starts took =
                   let noted = noted_uses uses length_use in
                   let had = subst (λ us. IsInBooks p.world w asked.handle us deps) u books in
                   let has = taken.has_job script line p w draft asked.handle run noted deps answer had starts took in
-                  started.goes_on script table begun n found line home asked list batch step the_text p st uses length_use
+                  started.goes_on line home asked list batch b the_text uses length_use
                   (jobs_of named) named_is in_text is_length none has.copied (record { world = w; draft = draft }) run has.place
                   (subst (λ as_. IsGuardedRun script p.world asked.kernel as_ asked.waive.items list batch run) e
                   (subst (λ ws. IsGuardedRun script p.world asked.kernel args ws list batch run) f r))
@@ -256,6 +254,6 @@ module _ (script : Script) (table : Table) (begun : ScriptState) (n : ℕ) (foun
                 let e = count_is in
                 let is = accepted_state g s x step.acts none in
                 let books : (state_after script table n x).book.count ≡ suc s.book.count =
-                ap (λ (u : ScriptState). u.book.count) (is ∙ accepted_is g s (started.o script table begun n found line home asked list batch)) in
+                ap (λ (u : ScriptState). u.book.count) (is ∙ accepted_is g s (started.o line home asked list batch b)) in
                 omega arith
             fails Words h = absurd h

@@ -26,7 +26,7 @@ use Rattle.frame_core.proofs.Small.{not_both}
 use Rattle.plan_laws.specs.Accepting.{Schedule, uses_of, deps_of, accepted, IsAcceptedSchedule, argument_binds, IsPlannedJob}
 use Rattle.plan_laws.specs.Binds.{start_at}
 use Rattle.plan_laws.specs.Planned.{Outline, IsPlanned}
-use Rattle.plan_laws.proofs.Accepting.{schedules_are_planned}
+use Rattle.plan_laws.proofs.Schedules.Accepting.{schedules_are_planned}
 use Rattle.defer_laws.specs.Deferring.{capacity_of, length_bind, guarded_kernel, Guards}
 use Rattle.defer_laws.specs.GuardedRuns.{word_at}
 use Rattle.defer_laws.proofs.Deferring.{guarded_kernels_stand_in}
@@ -41,7 +41,7 @@ use Rattle.plan_schedules.specs.Noting.{MayNoteAll}
 use Rattle.plan_state.specs.Stands.{Agrees, draft_of}
 use Rattle.plan_state.specs.Copies.{IsGuardedAt}
 use Rattle.plan_schedules.specs.Starting.{AreDeps}
-use Rattle.plan_state.specs.Steps.{state_at, IsStep, StandsAt, HasStepped}
+use Rattle.plan_state.specs.Steps.{state_at, IsBefore, HasStepped}
 use Rattle.plan_schedules.specs.Uses.{ForNames, IsUse, tags_of}
 use Rattle.plan_state.proofs.CopiesMade.{guarded_moved}
 use Rattle.plan_schedules.proofs.Arguments.{args_are}
@@ -65,8 +65,10 @@ use Rattle.plan_schedules.proofs.Grown.{none_waived}
 use Rattle.plan_schedules.proofs.Taken.{IsScheduled, placed}
 use Rattle.plan_schedules.proofs.Texts.{each_lower}
 
-module _ (script : Script) (table : Table) (begun : ScriptState) (n : ℕ) (found : List ℕ) (line : ℕ) (home : Box NewJob Global) (asked : NewJob)
-    (list batch : ℕ) where
+module _ (line : ℕ) (home : Box NewJob Global) (asked : NewJob) (list batch : ℕ)
+    {script : Script} {table : Table} {p : Planner} (b : IsBefore script table p (text.x line home asked list batch)) where
+  open b use {begun, n, found, step, stands as st}
+
   abbrev g : Setting
   g = setting script table
 
@@ -74,13 +76,13 @@ module _ (script : Script) (table : Table) (begun : ScriptState) (n : ℕ) (foun
   s = state_at script table n
 
   abbrev x : Statement
-  x = text.x script table n line home asked list batch
+  x = text.x line home asked list batch
 
   abbrev here : NewJob
   here = by_list asked None (list, batch)
 
   abbrev pub o : Schedule
-  o = started.o script table begun n found line home here
+  o = started.o line home here b
 
   abbrev t : ScriptState
   t = accepted g s o
@@ -88,13 +90,12 @@ module _ (script : Script) (table : Table) (begun : ScriptState) (n : ℕ) (foun
   abbrev waited : Jobs
   waited = deps_of g s o
 
-  module _ (step : IsStep script table n x) (is_text : IsDeferredText script table n line home asked list batch step) (p : Planner)
-      (st : StandsAt p script table begun n found)
+  module _ (is_text : IsDeferredText line home asked list batch step)
       (uses : List NamedUse) (length_use : NamedUse) (named : Jobs) (named_is : named ≡ jobs_named s asked.after.items)
       (are : ForNames (IsUse p.world named) is_text.source.params.items asked.args.items uses) (is : IsLengthUse p.world named list length_use)
       (none : refusal g s x.act ≡ None) where
     accepted_as : IsAcceptedSchedule g s o
-    accepted_as = started.accepted_as script table begun n found line home here step p st none
+    accepted_as = started.accepted_as line home here b none
 
     abbrev ps : List Param
     ps = is_text.source.params.items
@@ -114,10 +115,10 @@ module _ (script : Script) (table : Table) (begun : ScriptState) (n : ℕ) (foun
     -- ---- the uses that are noted
 
     meant_args : AreMeant p s named uses gs
-    meant_args = uses_meant p g begun n s found st named ps asked.args.items uses are
+    meant_args = uses_meant st named ps asked.args.items uses are
 
     meant_length : IsMeant p s named length_use (plain l)
-    meant_length = length_meant p g begun n s found st named list length_use is
+    meant_length = length_meant st named list length_use is
 
     abbrev all_noted : List NamedUse
     all_noted = noted_uses uses length_use
@@ -125,7 +126,7 @@ module _ (script : Script) (table : Table) (begun : ScriptState) (n : ℕ) (foun
     abbrev ng : List Given
     ng = noted_givens gs l
 
-    noted : started.IsNoted script table begun n found line home here p named all_noted ng
+    noted : started.IsNoted line home here b named all_noted ng
     noted = record {
       meant = noting.noted_meant p s named uses ps asked.args.items meant_args length_use list batch meant_length
           (is_parallel g asked.kernel) asked.auto asked.after.items unrefused;
@@ -140,12 +141,12 @@ module _ (script : Script) (table : Table) (begun : ScriptState) (n : ℕ) (foun
     }
 
     pub may_note_all : MayNoteAll all_noted (state_of p.world.safety)
-    may_note_all = started.may_note_all script table begun n found line home here step p st none named all_noted ng noted
+    may_note_all = started.may_note_all line home here b none named all_noted ng noted
 
     -- ---- what it waits for
 
     pub waited_up : AreUpTo s.book.count waited
-    waited_up = started.waited_up script table begun n found line home here step p st none
+    waited_up = started.waited_up line home here b none
 
     abbrev all : List Given
     all = gs ++ plain l ∷ []
@@ -159,7 +160,7 @@ module _ (script : Script) (table : Table) (begun : ScriptState) (n : ℕ) (foun
 
     pub waits_are : (deps : Jobs) → AreDeps asked.auto named p.world.jobs p.world.safety (tags_of (with_length uses length_use)) deps → deps ≡ waited
     waits_are deps d =
-        waiting.deps_are p g begun n s found st named asked.auto (with_length uses length_use) all meant_all alive_all deps d
+        waiting.deps_are st named asked.auto (with_length uses length_use) all meant_all alive_all deps d
         ∙ ap (λ ns. if asked.auto then both named (automatic s.book s.uses named ns) else named) (needs_same gs l ∙ ap needs (sym gives_are))
         ∙ ap (λ named. if asked.auto then both named (automatic s.book s.uses named (needs (uses_of g s o))) else named) named_is
 
@@ -168,14 +169,14 @@ module _ (script : Script) (table : Table) (begun : ScriptState) (n : ℕ) (foun
     below_list : list < length p.world.values.items
     below_list = let lt = is_text.list_below in let e = st.knows.each in omega arith
 
-    pub the_list : IsList p g begun n s found st list
-    the_list = lists.is_list p g begun n s found st list below_list accepted_as.list_fits.value
+    pub the_list : IsList st list
+    the_list = lists.is_list st list below_list accepted_as.list_fits.value
 
     pub list_few : capacity_of (contents_at s list) ≤ MOST_INDEXES
     list_few = let h = capacities_are_small script step.accepted table n (container_at s list) accepted_as.list_fits.made in omega arith
 
     pub list_named : IsListName p.world list
-    list_named = lists.list_name p g begun n s found st list the_list list_few
+    list_named = lists.list_name st list the_list list_few
 
     -- ---- the planner afterwards
 
@@ -217,7 +218,7 @@ module _ (script : Script) (table : Table) (begun : ScriptState) (n : ℕ) (foun
       binds_are y a = r.binds ∙ (λ i. args_now i ++ word_at (start_now i) ∷ [])
         where
           args_now : job_binds p.world r.source.parallel asked.waive.items 0 r.source.params.items asked.args.items ≡ argument_binds y.starts s o r.source
-          args_now = args_are p g begun n s found st y a (Some (list, batch)) r.source.parallel asked.waive.items 0 r.source.params.items asked.args.items
+          args_now = args_are st y a (Some (list, batch)) r.source.parallel asked.waive.items 0 r.source.params.items asked.args.items
               (each_lower (length g.names) (length p.world.values.items) (let e = st.knows.each in omega arith) asked.args.items is_text.below)
               (subst (λ k. ArgsFit s (Some (list, batch)) (kernel_params k) asked.args.items) r.is_source accepted_as.args_fit)
 
@@ -227,7 +228,7 @@ module _ (script : Script) (table : Table) (begun : ScriptState) (n : ℕ) (foun
       indexes_are : run.cut.n ≡ capacity_of (contents_at s list)
       indexes_are = r.cut_by.indexes ∙ ap (λ (w : ListAt). w.cap) same_at ∙ the_list.cap
 
-      is_run : started.IsRunOf script table begun n found line home here p run copy.copy
+      is_run : started.IsRunOf line home here b run copy.copy
       is_run = record {
         source = r.source;
         is_source = r.is_source;
@@ -239,16 +240,16 @@ module _ (script : Script) (table : Table) (begun : ScriptState) (n : ℕ) (foun
       }
 
       abbrev q : Planner
-      q = started.as_q script table begun n found line home here step p st none named all_noted ng noted p.draft.copies_of mid.guards_of mid.kernels
+      q = started.as_q line home here b none named all_noted ng noted p.draft.copies_of mid.guards_of mid.kernels
           mid.codes copy.copy run place new deps deps_are done
 
       back : (y : Outline) → Agrees q g begun found y → Agrees p g begun found y
-      back = started.agrees script table begun n found line home here step p st none named all_noted ng noted p.draft.copies_of mid.guards_of mid.kernels
+      back = started.agrees line home here b none named all_noted ng noted p.draft.copies_of mid.guards_of mid.kernels
           mid.codes copy.copy run place new deps deps_are done
 
       planned_job : (y : Outline) → Agrees q g begun found y → IsPlannedJob y (draft_of p) o (guarded_kernel y.starts s o list r.source copy.copy) waited
           done.job
-      planned_job y a = started.job_as script table begun n found line home here step p st none named all_noted ng noted p.draft.copies_of mid.guards_of
+      planned_job y a = started.job_as line home here b none named all_noted ng noted p.draft.copies_of mid.guards_of
           mid.kernels mid.codes copy.copy run place new deps deps_are done y a (Some (r.at.cap, batch)) r.cut_by
           (argument_binds y.starts s o r.source ++ length_bind y.starts s list ∷ []) (capacity_of (contents_at s list)) copy.guards.checked
           (binds_are y (back y a)) indexes_are
@@ -270,11 +271,11 @@ module _ (script : Script) (table : Table) (begun : ScriptState) (n : ℕ) (foun
           done.started.segment done.job a.small st.knows.known (st.planned y (back y a)) accepted_as r.is_source (planned_job y a)
           (guarded_kernels_stand_in y g s o (list, batch) r.source copy.copy (draft_of p) done.job a.small (st.planned y (back y a)) accepted_as refl
           r.is_source guards (planned_job y a))
-          (started.starts_next script table begun n found line home here step p st none named all_noted ng noted p.draft.copies_of mid.guards_of mid.kernels
+          (started.starts_next line home here b none named all_noted ng noted p.draft.copies_of mid.guards_of mid.kernels
           mid.codes copy.copy run place new deps deps_are done)
-          (started.closes script table begun n found line home here step p st none named all_noted ng noted p.draft.copies_of mid.guards_of mid.kernels
+          (started.closes line home here b none named all_noted ng noted p.draft.copies_of mid.guards_of mid.kernels
           mid.codes copy.copy run place new deps deps_are done)
 
-      pub goes_on : HasStepped script table begun n found p new x
-      goes_on = started.goes_on script table begun n found line home here step p st none named all_noted ng noted p.draft.copies_of mid.guards_of mid.kernels
+      pub goes_on : HasStepped b new
+      goes_on = started.goes_on line home here b none named all_noted ng noted p.draft.copies_of mid.guards_of mid.kernels
           mid.codes copy.copy run place new deps deps_are done is_run plans

@@ -19,11 +19,11 @@ use Rattle.plan_schedules.proofs.Texts.{EachBelow, args_below, all_below_names}
 use Rattle.frame_ast.specs.declared.script.NewJob.{NewJob}
 use Rattle.plan_schedules.specs.Starting.{in_box}
 
-module _ (script : Script) (table : Table) (n line : ℕ) (home : Box NewJob Global) (asked : NewJob) (list batch : ℕ) where
+module _ (line : ℕ) (home : Box NewJob Global) (asked : NewJob) (list batch : ℕ) where
   abbrev pub x : Statement
   x = record { line = line; act = Scheduled (in_box home (by_list asked None (list, batch))) }
 
-  module _ (step : IsStep script table n x) where
+  module _ {script : Script} {table : Table} {n : ℕ} (step : IsStep script table n x) where
     abbrev names : ℕ → Names
     names made = record { kinds = step.accepted.kinds; made = made }
 
@@ -51,11 +51,11 @@ module _ (script : Script) (table : Table) (n line : ℕ) (home : Box NewJob Glo
 
     pub deferred_text : IsDeferredText
     deferred_text =
-        let fit = fits_at script table n x step in
+        let fit = fits_at step in
         let parts = and_parts (makes (names fit.made) asked.handle kind.Handle)
         (schedule_fits (names fit.made) (slice_get script.kernels.items asked.kernel) asked.args.items None defer asked.waive.items asked.after.items)
         fit.fits in
-        by fit.made (made_below script table n x step fit.made asked.handle kind.Handle parts.0) (slice_get script.kernels.items asked.kernel) refl parts.1
+        by fit.made (made_below step fit.made asked.handle kind.Handle parts.0) (slice_get script.kernels.items asked.kernel) refl parts.1
       where
         by : (made : ℕ) → asked.handle < many → (o : Option Kernel) → slice_get script.kernels.items asked.kernel ≡ o
             → schedule_fits (names made) o asked.args.items None defer asked.waive.items asked.after.items ≡ true → IsDeferredText
@@ -68,7 +68,7 @@ module _ (script : Script) (table : Table) (n line : ℕ) (home : Box NewJob Glo
             let u = and_parts (uses (names made) list (kind.List ∷ [])) (batch_fits batch) f.0 in
             let s = and_parts (nat_le 1 batch) (up_to MOST_INDEXES batch) u.1 in
             let d = and_parts _ (all_used (names made) asked.after.items) c.1 in
-            let below = args_below script table n x step defer made k.params.items asked.args.items b.0 in
+            let below = args_below step defer made k.params.items asked.args.items b.0 in
             let checked = step.accepted.kernels asked.kernel k at in
             let few = leb-true (length k.params.items) MOST_PARAMS checked.count in
             record {
@@ -76,16 +76,16 @@ module _ (script : Script) (table : Table) (n line : ℕ) (home : Box NewJob Glo
               has = at;
               guardable = record { checked = checked; parallel = parallel_alone k.parallel b.1; fits = f.1 };
               handle_below = lt;
-              list_below = used_below script table n x step made list (kind.List ∷ []) u.0;
+              list_below = used_below step made list (kind.List ∷ []) u.0;
               batch_fit = (leb-true 1 batch s.0, leb-true batch MOST_INDEXES s.1);
               each = below.0;
               few = (let e = below.0 in omega arith);
               below = below.1;
-              after_below = all_below_names script table n x step defer made asked.after.items d.1;
+              after_below = all_below_names step defer made asked.after.items d.1;
             }
 
 -- there is no cut beside a `defer`
-module _ (script : Script) (table : Table) (n line : ℕ) (home : Box NewJob Global) (asked : NewJob) (cut : Option (ℕ × ℕ)) (defer : ℕ × ℕ) where
+module _ (line : ℕ) (home : Box NewJob Global) (asked : NewJob) (cut : Option (ℕ × ℕ)) (defer : ℕ × ℕ) where
   abbrev y : Statement
   y = record { line = line; act = Scheduled (in_box home (by_list asked cut defer)) }
 
@@ -95,9 +95,9 @@ module _ (script : Script) (table : Table) (n line : ℕ) (home : Box NewJob Glo
   alone false None h = absurd cc
   alone false (Some c) h = absurd cc
 
-  pub uncut : IsStep script table n y → cut ≡ None
-  uncut step =
-      let fit = fits_at script table n y step in
+  pub uncut : {script : Script} {table : Table} {n : ℕ} → IsStep script table n y → cut ≡ None
+  uncut {script} step =
+      let fit = fits_at step in
       by (record { kinds = step.accepted.kinds; made = fit.made }) (slice_get script.kernels.items asked.kernel)
       (and_parts (makes (record { kinds = step.accepted.kinds; made = fit.made }) asked.handle kind.Handle)
       (schedule_fits (record { kinds = step.accepted.kinds; made = fit.made }) (slice_get script.kernels.items asked.kernel) asked.args.items cut

@@ -152,14 +152,14 @@ module _ (p : Planner) (g : Setting) (begun : ScriptState) (n : ℕ) (s : Script
       }
 
 -- A planner stands for the state afterwards where names do, and the plan so far does.
-pub continued : (p q : Planner) (g : Setting) (begun : ScriptState) (n : ℕ) (s t : ScriptState) (found : List ℕ)
+pub continued : {p q : Planner} {g : Setting} {begun : ScriptState} {n : ℕ} {s t : ScriptState} {found : List ℕ}
     → Stands p g begun n s found
     → IsContinued p q s t found
     → IsKnown t
     → AreNames q.world.values.items q.world.handles.items (length p.world.containers.items) t
     → ((x : Outline) → Agrees p g begun found x → IsPlanned x t (draft_of q))
     → Stands q g begun (suc n) t found
-continued p q g begun n s t found st r known names planned =
+continued {p} {q} {g} {begun} {n} {s} {t} {found} st r known names planned =
     let as_q : Planner = record p {
       world = record p.world {
         values = q.world.values;

@@ -19,7 +19,7 @@ use Rattle.safety_handle.specs.declared.tag.Tag.{Tag}
 use Rattle.safety_handle.specs.Entries.{state_of}
 use Rattle.safety_handle.specs.Checks.{is_current}
 use Rattle.frame_core.proofs.Small.{not_both, get_below, either_bool}
-use Rattle.plan_laws.proofs.Completing.{any_true, none_any}
+use Rattle.plan_laws.proofs.Statements.Completing.{any_true, none_any}
 use Rattle.plan_state.specs.declared.state.Container.{Container}
 use Rattle.plan_state.specs.declared.state.World.{World}
 use Rattle.plan_state.specs.Stands.{tag_of, IsHeldFor, AreContainers}

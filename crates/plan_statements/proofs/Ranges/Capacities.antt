@@ -37,7 +37,7 @@ use Rattle.safety_handle.specs.Entries.{SlotState, state_of}
 use Rattle.frame_core.specs.declared.plan.Act.TheVariants.{Say, Move}
 use Rattle.frame_core.proofs.Small.{not_both, some_is, none_some, get_below}
 use Rattle.plan_laws.specs.Binds.{bind_of}
-use Rattle.plan_laws.proofs.Making.{alive_is_live}
+use Rattle.plan_laws.proofs.Statements.Making.{alive_is_live}
 use Rattle.plan_state.specs.declared.state.Value.{Value}
 use Rattle.plan_state.specs.declared.state.Value.TheVariants.{Dead, Whole, Slice, View, Jobs as Handles}
 use Rattle.plan_state.specs.declared.state.Container.{Container}
@@ -47,7 +47,7 @@ use Rattle.plan_state.specs.declared.state.World.{World}
 use Rattle.plan_state.specs.Accesses.{IsPushed, MayUse, refused_as}
 use Rattle.plan_state.specs.Answers.{HasOp}
 use Rattle.plan_state.specs.Stands.{jobs_at, value_for, AreNames, IsContainer, Stands}
-use Rattle.plan_state.specs.Steps.{state_at, IsStep, StandsAt, HasStepped}
+use Rattle.plan_state.specs.Steps.{state_at, IsBefore, HasStepped}
 use Rattle.plan_statements.specs.Capacity.{IsWhole, IsList, HasBroken, IsMoved}
 use Rattle.plan_state.proofs.Accessing.{there, read_some}
 use Rattle.plan_statements.proofs.Ranges.NewContainers.{is_full, not_full}
@@ -91,8 +91,10 @@ list_contents (Items old xs) e = (old, xs, refl)
 list_contents (Pairs cap ps) e = absurd cc
 list_contents (Entries room es) e = absurd cc
 
-module _ (script : Script) (table : Table) (begun : ScriptState) (n line name cap : ℕ) (found : List ℕ) (p : Planner)
-    (step : IsStep script table n (record { line = line; act = SetCapacity name cap })) (st : StandsAt p script table begun n found) where
+module _ {script : Script} {table : Table} {p : Planner} {line name cap : ℕ}
+    (b : IsBefore script table p (record { line = line; act = SetCapacity name cap })) where
+  open b use {begun, n, found, step, stands as st}
+
   abbrev g : Setting
   g = setting script table
 
@@ -108,13 +110,13 @@ module _ (script : Script) (table : Table) (begun : ScriptState) (n line name ca
   named : IsNamed
   named =
       let x : Statement = record { line = line; act = SetCapacity name cap } in
-      let f = fits_at script table n x step in
+      let f = fits_at step in
       let ns : Names = record { kinds = step.accepted.kinds; made = f.made } in
       let both = and_parts (uses ns name (ListName ∷ [])) (nat_le cap MOST_ELEMENTS) f.fits in
       let used = is_used ns name (ListName ∷ []) both.0 in
-      let holds = holds_kinds script table n x step in
+      let holds = holds_kinds step in
       record {
-        below = used_below script table n x step f.made name (ListName ∷ []) both.0;
+        below = used_below step f.made name (ListName ∷ []) both.0;
         small = leb-true cap MOST_ELEMENTS both.1;
         of = subst (λ k. IsOfKind s k (s.values name)) (one_kind used.kind ListName used.fits) (holds.names name used.kind used.at);
       }
@@ -199,7 +201,7 @@ module _ (script : Script) (table : Table) (begun : ScriptState) (n line name ca
       none_of (Some r) not = absurd (not r refl)
 
   pub name_read : (v : Value) → v ≡ get_or p.world.values.items name v → slice_get p.world.values.items name ≡ Some v
-  name_read v e = read_some p.world.values name v (within p g begun n s found st name named.below) e
+  name_read v e = read_some p.world.values name v (within st name named.below) e
 
   -- the list, where the code read the name and the container
   module _ (answer : Option Refusal) (not : (r : Refusal) → answer ≡ Some r → ⊥) (may : MayUse p.world name true answer) (v : Value)
@@ -240,7 +242,7 @@ module _ (script : Script) (table : Table) (begun : ScriptState) (n line name ca
         let e = k.view l.alive in
         let few = view_numbers_are_few g (take n script.statements.items) l.c in
         let len = taken_long n script.statements.items in
-        let small = statements_few script table n (record { line = line; act = SetCapacity name cap }) step in
+        let small = statements_few step in
         omega arith
       where
         taken_long : {A : Type 0} (n : ℕ) (xs : List A) → length (take n xs) ≤ n
@@ -311,9 +313,9 @@ module _ (script : Script) (table : Table) (begun : ScriptState) (n line name ca
             → p.world.created + (cap + 1) ≤ MOST_CREATED_WORDS
             → IsMoved p.world w l.c l.it cap span
             → HasOp p.draft draft (record { line = line; name = name; act = Move (record { start = at.start; len = at.cap + 1 }) span })
-            → HasStepped script table begun n found p (record p { world = w; draft = draft }) x
+            → HasStepped b (record p { world = w; draft = draft })
         capacity_goes_on w draft span at was small m has =
-            range_steps script table begun n found x step p (record p { world = w; draft = draft }) st (cap + 1) span
+            range_steps b (record p { world = w; draft = draft }) (cap + 1) span
             (record { line = line; name = name; act = Move (record { start = at.start; len = at.cap + 1 }) span })
             (record { fit = m.regrown.fit; len = m.regrown.len_is; peak = m.regrown.peak })
             (record {
@@ -423,12 +425,10 @@ module _ (script : Script) (table : Table) (begun : ScriptState) (n line name ca
               views = views;
             }
 
-        pub low_goes_on : HasStepped script table begun n found p q y
+        pub low_goes_on : HasStepped b q
         low_goes_on =
-            refused_steps script table begun n found p q y step
-            (refused_stands p q g begun n s found y (refused PastRange name) st step.acts (refused_low lt) named.below restates i.ops
-            (known_after script table n y step)
-            (subst (λ (z : Planner). AreNames z.world.values.items z.world.handles.items (length p.world.containers.items) t) (sym i.rest)
+            refused_steps b q (refused_stands p q g begun n s found y (refused PastRange name) st step.acts (refused_low lt) named.below restates i.ops
+            (known_after step) (subst (λ (z : Planner). AreNames z.world.values.items z.world.handles.items (length p.world.containers.items) t) (sym i.rest)
             (same_names p.world.values.items p.world.handles.items (length p.world.containers.items) s t (λ j m. like.values m refl j) st.knows.names)))
             (quiet_restated p q s t restates (given_one p.draft.ops.items q.draft.ops.items
             (record { line = line; name = name; act = Say PastRange }) i.ops refl))

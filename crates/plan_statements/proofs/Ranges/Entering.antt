@@ -34,7 +34,7 @@ use Rattle.frame_core.proofs.Small.{not_both, some_is, none_some, get_before, ge
 use Rattle.plan_laws.specs.Binds.{bind_of}
 use Rattle.plan_laws.specs.Making.{FillsAs, next_span}
 use Rattle.plan_laws.specs.Planned.{Outline, IsPlanned}
-use Rattle.plan_laws.proofs.Making.{at_here, at_other, live_below as below_made, alive_is_live, containers_are_planned}
+use Rattle.plan_laws.proofs.Statements.Making.{at_here, at_other, live_below as below_made, alive_is_live, containers_are_planned}
 use Rattle.plan_state.specs.declared.state.Value.{Value}
 use Rattle.plan_state.specs.declared.state.Value.TheVariants.{Dead, Whole, Slice, View, Jobs as Handles}
 use Rattle.plan_state.specs.declared.state.Container.{Container}

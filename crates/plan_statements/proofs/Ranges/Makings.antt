@@ -41,7 +41,7 @@ pub array_bind : (g : Setting) (start len : ℕ) (values : Option ℕ) → len �
 array_bind g start len None e = ap (λ n. bind.Array (record { start = start; len = n }) 0) e
 array_bind g start len (Some n) e = ap (λ n. bind.Array (record { start = start; len = n }) 0) e
 
-module _ (script : Script) (table : Table) (n line name len : ℕ) (life : Life) (values : Option ℕ)
+module _ {script : Script} {table : Table} {n line name len : ℕ} {life : Life} {values : Option ℕ}
     (step : IsStep script table n (record { line = line; act = Array name len life values })) where
   abbrev g : Setting
   g = setting script table
@@ -49,10 +49,10 @@ module _ (script : Script) (table : Table) (n line name len : ℕ) (life : Life)
   abbrev x : Statement
   x = record { line = line; act = Array name len life values }
 
-  fits : (makes (record { kinds = step.accepted.kinds; made = (fits_at script table n x step).made }) name kind.Array ≡ true)
+  fits : (makes (record { kinds = step.accepted.kinds; made = (fits_at step).made }) name kind.Array ≡ true)
       × (literal_fits g.literals len values ≡ true)
   fits =
-      let f = fits_at script table n x step in
+      let f = fits_at step in
       let a = and_parts (makes (record { kinds = step.accepted.kinds; made = f.made }) name kind.Array)
       (up_to MOST_ELEMENTS len && literal_fits g.literals len values) f.fits in
       (a.0, (and_parts (up_to MOST_ELEMENTS len) (literal_fits g.literals len values) a.1).1)
@@ -66,7 +66,7 @@ module _ (script : Script) (table : Table) (n line name len : ℕ) (life : Life)
     passed = refl;
     takes = refl;
     job = tt;
-    below = made_below script table n x step (fits_at script table n x step).made name kind.Array fits.0;
+    below = made_below step (fits_at step).made name kind.Array fits.0;
   }
 
   pub array_words : len ≡ words_of (new_array g len values)
@@ -94,13 +94,13 @@ column_given : (values : Option (List ℤ)) → IsGiven values (Elements (unwrap
 column_given None = refl
 column_given (Some xs) = refl
 
-module _ (script : Script) (table : Table) (n line name : ℕ) (column : Vec ℕ Global) (life : Life)
+module _ {script : Script} {table : Table} {n line name : ℕ} {column : Vec ℕ Global} {life : Life}
     (step : IsStep script table n (record { line = line; act = Column name column life })) where
   pub column_makes : Makes (setting script table) (record { line = line; act = Column name column life }) name life
       (new_column (setting script table) column.items)
   column_makes =
       let x : Statement = record { line = line; act = Column name column life } in
-      let f = fits_at script table n x step in
+      let f = fits_at step in
       record {
         refusal_is = λ s. refl;
         effect_is = λ s. refl;
@@ -109,7 +109,7 @@ module _ (script : Script) (table : Table) (n line name : ℕ) (column : Vec ℕ
         passed = refl;
         takes = refl;
         job = tt;
-        below = made_below script table n x step f.made name kind.Array
+        below = made_below step f.made name kind.Array
             (and_parts (makes (record { kinds = step.accepted.kinds; made = f.made }) name kind.Array)
             (up_to MOST_COLUMN_BYTES (length column.items)) f.fits).0;
       }
@@ -119,12 +119,12 @@ module _ (script : Script) (table : Table) (n line name : ℕ) (column : Vec ℕ
 
 -- LISTS
 
-module _ (script : Script) (table : Table) (n line name cap : ℕ) (life : Life)
+module _ {script : Script} {table : Table} {n line name cap : ℕ} {life : Life}
     (step : IsStep script table n (record { line = line; act = NewList name cap life })) where
   pub list_makes : Makes (setting script table) (record { line = line; act = NewList name cap life }) name life (new_list cap)
   list_makes =
       let x : Statement = record { line = line; act = NewList name cap life } in
-      let f = fits_at script table n x step in
+      let f = fits_at step in
       record {
         refusal_is = λ s. refl;
         effect_is = λ s. refl;
@@ -133,7 +133,7 @@ module _ (script : Script) (table : Table) (n line name cap : ℕ) (life : Life)
         passed = refl;
         takes = refl;
         job = tt;
-        below = made_below script table n x step f.made name kind.List (and_parts (makes (record { kinds = step.accepted.kinds; made = f.made }) name kind.List)
+        below = made_below step f.made name kind.List (and_parts (makes (record { kinds = step.accepted.kinds; made = f.made }) name kind.List)
             (up_to MOST_ELEMENTS cap) f.fits).0;
       }
 
@@ -143,12 +143,12 @@ pub reference_given : (value : Option ℤ) → IsGiven (option_map (λ z. z ∷ 
 reference_given None = refl
 reference_given (Some z) = refl
 
-module _ (script : Script) (table : Table) (n line name : ℕ) (life : Life) (value : Option ℤ)
+module _ {script : Script} {table : Table} {n line name : ℕ} {life : Life} {value : Option ℤ}
     (step : IsStep script table n (record { line = line; act = Reference name life value })) where
   pub reference_makes : Makes (setting script table) (record { line = line; act = Reference name life value }) name life (new_reference value)
   reference_makes =
       let x : Statement = record { line = line; act = Reference name life value } in
-      let f = fits_at script table n x step in
+      let f = fits_at step in
       record {
         refusal_is = λ s. refl;
         effect_is = λ s. refl;
@@ -157,17 +157,17 @@ module _ (script : Script) (table : Table) (n line name : ℕ) (life : Life) (va
         passed = refl;
         takes = refl;
         job = tt;
-        below = made_below script table n x step f.made name kind.Reference f.fits;
+        below = made_below step f.made name kind.Reference f.fits;
       }
 
 -- MAPS
 
-module _ (script : Script) (table : Table) (n line name cap : ℕ) (life : Life)
+module _ {script : Script} {table : Table} {n line name cap : ℕ} {life : Life}
     (step : IsStep script table n (record { line = line; act = Map name cap life })) where
   pub map_makes : Makes (setting script table) (record { line = line; act = Map name cap life }) name life (new_map cap)
   map_makes =
       let x : Statement = record { line = line; act = Map name cap life } in
-      let f = fits_at script table n x step in
+      let f = fits_at step in
       record {
         refusal_is = λ s. refl;
         effect_is = λ s. refl;
@@ -176,7 +176,7 @@ module _ (script : Script) (table : Table) (n line name cap : ℕ) (life : Life)
         passed = refl;
         takes = refl;
         job = tt;
-        below = made_below script table n x step f.made name kind.Map (and_parts (makes (record { kinds = step.accepted.kinds; made = f.made }) name kind.Map)
+        below = made_below step f.made name kind.Map (and_parts (makes (record { kinds = step.accepted.kinds; made = f.made }) name kind.Map)
             (up_to MOST_PAIRS cap) f.fits).0;
       }
 
@@ -188,12 +188,12 @@ stream_given count room = ap (λ n. Entries room (replicate n None)) (length-rep
 pub stream_bind : (start count room : ℕ) → bind.Stream (record { start = start; count = count; room = room }) false ≡ bind_of start (new_stream count room)
 stream_bind start count room = ap (λ n. bind.Stream (record { start = start; count = n; room = room }) false) (sym (length-replicate count None))
 
-module _ (script : Script) (table : Table) (n line name count room : ℕ) (life : Life)
+module _ {script : Script} {table : Table} {n line name count room : ℕ} {life : Life}
     (step : IsStep script table n (record { line = line; act = Stream name count room life })) where
   pub stream_makes : Makes (setting script table) (record { line = line; act = Stream name count room life }) name life (new_stream count room)
   stream_makes =
       let x : Statement = record { line = line; act = Stream name count room life } in
-      let f = fits_at script table n x step in
+      let f = fits_at step in
       record {
         refusal_is = λ s. refl;
         effect_is = λ s. refl;
@@ -202,7 +202,7 @@ module _ (script : Script) (table : Table) (n line name count room : ℕ) (life 
         passed = refl;
         takes = refl;
         job = tt;
-        below = made_below script table n x step f.made name kind.Stream
+        below = made_below step f.made name kind.Stream
             (and_parts (makes (record { kinds = step.accepted.kinds; made = f.made }) name kind.Stream)
             (up_to MOST_STREAM_INDEXES count && up_to MOST_STREAM_ITEMS room) f.fits).0;
       }

@@ -31,7 +31,7 @@ use Rattle.frame_core.specs.Ordered.{IsLiteral}
 use Rattle.plan_laws.specs.Binds.{bind_of}
 use Rattle.plan_laws.specs.Making.{FillsAs, IsGivenBy}
 use Rattle.plan_laws.specs.Planned.{Outline}
-use Rattle.plan_laws.proofs.Filling.{zeros_fill, literals_fill}
+use Rattle.plan_laws.proofs.Statements.Filling.{zeros_fill, literals_fill}
 use Rattle.plan_state.specs.declared.state.PlanFault.{PlanFault}
 use Rattle.plan_state.specs.declared.state.PlanFault.TheVariants.{Jobs, Words, NoMemory}
 use Rattle.plan_state.specs.declared.answer.Answer.{Answer}
@@ -44,7 +44,7 @@ use Rattle.plan_state.specs.Accesses.{IsRenamed}
 use Rattle.plan_state.specs.Answers.{HasFilled, HasTaken}
 use Rattle.plan_statements.specs.Making.{TakesWords, HasWords, FailsToTake, IsEntered, and_if, elements_of}
 use Rattle.plan_state.specs.Stands.{Stands}
-use Rattle.plan_state.specs.Steps.{state_at, state_after, IsStep, StandsAt, HasStepped, IsBefore, PassesLimit}
+use Rattle.plan_state.specs.Steps.{state_at, state_after, HasStepped, IsBefore, PassesLimit}
 use Rattle.plan_statements.proofs.Ranges.Entering.{IsMade, made_stands}
 use Rattle.plan_state.proofs.Answering.{was_pushed}
 use Rattle.plan_state.proofs.Quiet.{IsNoSchedule}
@@ -104,12 +104,12 @@ as_many_containers old new len t took lt = subst (λ (z : World). vec_len z.cont
 
 -- WHAT READY SAYS
 
-module _ (script : Script) (x : Statement) (p : Planner) (b : IsBefore script p x) where
+module _ {script : Script} {table : Table} {p : Planner} {x : Statement} (b : IsBefore script table p x) where
   abbrev few : b.n < MOST_STATEMENTS
-  few = statements_few script b.table b.n x b.step
+  few = statements_few b.step
 
-  pub ready_name : (name : ℕ) → name < length (setting script b.table).names → name < vec_len p.world.values
-  ready_name name lt = within p (setting script b.table) b.begun b.n (state_at script b.table b.n) b.found b.stands name lt
+  pub ready_name : (name : ℕ) → name < length (setting script table).names → name < vec_len p.world.values
+  ready_name name lt = within b.stands name lt
 
   pub ready_slots : slots_in_use p.world.store < 4294967295
   ready_slots = let a = b.stands.numbers.slots_few in let m = b.stands.numbers.made_few in let c = few in omega arith
@@ -123,9 +123,10 @@ module _ (script : Script) (x : Statement) (p : Planner) (b : IsBefore script p 
 
 -- THE STATEMENT IS ACCEPTED
 
-module _ (script : Script) (table : Table) (begun : ScriptState) (n : ℕ) (x : Statement) (found : List ℕ) (p : Planner)
-    (step : IsStep script table n x) (st : StandsAt p script table begun n found)
-    (name : ℕ) (life : Life) (c : Contents) (makes : Makes (setting script table) x name life c) where
+module _ {script : Script} {table : Table} {p : Planner} {x : Statement} (b : IsBefore script table p x) (name : ℕ) (life : Life) (c : Contents)
+    (makes : Makes (setting script table) x name life c) where
+  open b use {begun, n, found, step, stands as st}
+
   abbrev g : Setting
   g = setting script table
 
@@ -158,11 +159,10 @@ module _ (script : Script) (table : Table) (begun : ScriptState) (n : ℕ) (x : 
       → IsRenamed v w name Dead
       → answer ≡ RefusedAs name StoreFull
       → HasTaken p.draft draft x.line answer
-      → HasStepped script table begun n found p (record p { world = w; draft = draft }) x
+      → HasStepped b (record p { world = w; draft = draft })
   lost_goes_on v w draft len answer e full renames is took =
       let lt = full.0 in
-      said_dead script table begun n found x step (refused StoreFull name) p st
-      (makes.refusal_is s ∙ is_full s (words_of c) name (let k = st.numbers.live_words in omega arith)) makes.below
+      said_dead b (refused StoreFull name) (makes.refusal_is s ∙ is_full s (words_of c) name (let k = st.numbers.live_words in omega arith)) makes.below
       (record p { draft = draft }) w name makes.made makes.lost makes.passed (inl refl)
       (was_pushed p p.world draft _ (subst (HasTaken p.draft draft x.line) is took))
       (subst (λ z. IsRenamed z w name Dead) full.1 renames)
@@ -304,9 +304,9 @@ module _ (script : Script) (table : Table) (begun : ScriptState) (n : ℕ) (x : 
     found_is : HasFound p u (words_of c) t.span
     found_is = record { fit = words.fit; len = words.len_is; peak = ap (λ (z : World). peak_of z.store) after ∙ words.peak }
 
-    pub goes_on : HasStepped script table begun n found p u x
+    pub goes_on : HasStepped b u
     goes_on =
-        range_steps script table begun n found x step p u st (words_of c) t.span filling found_is one_op refl
+        range_steps b u (words_of c) t.span filling found_is one_op refl
         (accepted few_words) makes.takes makes.job (ap (λ (z : ScriptState). z.book.completed) (acted few_words))
         (subst (λ z. Stands u g begun (suc n) z (found ++ t.span.start ∷ [])) (sym (acted few_words))
         (subst (λ z. Stands z g begun (suc n) (make x.line name life c s) (found ++ t.span.start ∷ [])) (sym all_is)

@@ -1,5 +1,5 @@
 -- A statement that takes a range: the definition has it where the store found it, and the plan gives it.
-use Rattle.std.proofs.Common.{◌≡◌, ℕ, suc, ◌+◌, List, [], ◌∷◌, ◌++◌, None, Some, sym, ap, subst, ◌∙◌, arith, append-nil}
+use Rattle.std.proofs.Common.{◌≡◌, ℕ, suc, ◌+◌, [], ◌∷◌, ◌++◌, None, Some, sym, ap, subst, ◌∙◌, arith, append-nil}
 use Rattle.std.specs.Prelude.{max, slice_get, ◌-◌}
 use Rattle.std.proofs.lemmas.List.{append_assoc}
 use Rattle.job_base.specs.declared.Span.{Span}
@@ -18,7 +18,7 @@ use Rattle.plan_laws.specs.Ledgers.{later}
 use Rattle.plan_state.specs.declared.state.Planner.{Planner}
 use Rattle.plan_state.specs.Growth.{given_by, given_in, given_from, given_so_far, span_at, span_unless, span_by, greatest_end, waits_in, deps_after, StartAs, unless_none, waits_of, waits_by, Grows}
 use Rattle.plan_state.specs.Stands.{Stands}
-use Rattle.plan_state.specs.Steps.{state_at, state_after, IsStep, StandsAt, HasStepped}
+use Rattle.plan_state.specs.Steps.{state_at, state_after, IsBefore, HasStepped}
 use Rattle.plan_statements.proofs.Ranges.Entering.{get_new, get_old, one_more}
 use Rattle.plan_state.proofs.Quiet.{IsNoSchedule, given_more, plain_awaits, plain_schedules, waits_stay}
 use Rattle.plan_statements.proofs.Ranges.Storing.{live_words_are_alike}
@@ -37,12 +37,12 @@ pub record HasFound (p q : Planner) (words : ℕ) (span : Span) : Type 0 where
   pub len : span.len ≡ words
   pub peak : peak_of q.world.store ≡ max (peak_of p.world.store) (span.start + words)
 
-module _ (script : Script) (table : Table) (begun : ScriptState) (n : ℕ) (found : List ℕ) (x : Statement) (step : IsStep script table n x)
-    (p q : Planner) (st : StandsAt p script table begun n found) (words : ℕ) (span : Span) (op : Op) (has : HasFound p q words span) (more : HasOneMore p q op)
-    (gives : given_by op.act ≡ span ∷ [])
-    (none : refusal (setting script table) (state_at script table n) x.act ≡ None) (takes : takes_words (setting script table) x.act ≡ Some words)
-    (job : IsNoSchedule x.act)
-    (completed : (state_after script table n x).book.completed ≡ (state_at script table n).book.completed) where
+module _ {script : Script} {table : Table} {p : Planner} {x : Statement} (b : IsBefore script table p x) (q : Planner)
+    (words : ℕ) (span : Span) (op : Op) (has : HasFound p q words span) (more : HasOneMore p q op) (gives : given_by op.act ≡ span ∷ [])
+    (none : refusal (setting script table) (state_at script table b.n) x.act ≡ None) (takes : takes_words (setting script table) x.act ≡ Some words)
+    (job : IsNoSchedule x.act) (completed : (state_after script table b.n x).book.completed ≡ (state_at script table b.n).book.completed) where
+  open b use {begun, n, found, step, stands as st}
+
   abbrev g : Setting
   g = setting script table
 
@@ -108,5 +108,5 @@ module _ (script : Script) (table : Table) (begun : ScriptState) (n : ℕ) (foun
           waits = (λ i. waits_of (segments i).items ++ unless_none (waits i).items) ∙ waits_stay before s (act g s x) (waits_by p) completed;
         }
 
-  pub range_steps : Stands q g begun (suc n) (state_after script table n x) (found ++ span.start ∷ []) → HasStepped script table begun n found p q x
+  pub range_steps : Stands q g begun (suc n) (state_after script table n x) (found ++ span.start ∷ []) → HasStepped b q
   range_steps stands = record { more = span.start ∷ []; stands = stands; grows = grows }

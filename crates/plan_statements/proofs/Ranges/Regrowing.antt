@@ -31,8 +31,8 @@ use Rattle.frame_core.specs.declared.plan.Op.{Op}
 use Rattle.frame_core.proofs.Small.{not_both, some_is, get_below}
 use Rattle.plan_laws.specs.Binds.{bind_of}
 use Rattle.plan_laws.specs.Planned.{Outline, IsPlanned}
-use Rattle.plan_laws.proofs.Making.{at_here, at_other, alive_is_live}
-use Rattle.plan_laws.proofs.Moving.{moves_are_planned}
+use Rattle.plan_laws.proofs.Statements.Making.{at_here, at_other, alive_is_live}
+use Rattle.plan_laws.proofs.Statements.Moving.{moves_are_planned}
 use Rattle.plan_state.specs.declared.state.Container.{Container}
 use Rattle.plan_state.specs.declared.state.Planner.{Planner}
 use Rattle.plan_statements.specs.Capacity.{HasRegrown, HasBroken}

@@ -16,7 +16,7 @@ use Rattle.plan_state.specs.declared.state.Container.{Container}
 use Rattle.plan_state.specs.declared.state.Planner.{Planner}
 use Rattle.plan_state.specs.Growth.{StartAs}
 use Rattle.plan_state.specs.Stands.{Stands}
-use Rattle.plan_laws.proofs.Making.{word_is_live, live_below}
+use Rattle.plan_laws.proofs.Statements.Making.{word_is_live, live_below}
 use Rattle.plan_state.proofs.Accessing.{there}
 
 same_bool : (a b : Bool) → (a ≡ true → b ≡ true) → (b ≡ true → a ≡ true) → a ≡ b

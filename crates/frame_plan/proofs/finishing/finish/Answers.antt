@@ -16,7 +16,7 @@ use Rattle.frame_plan.proofs.finishing.finish.Goals as goal
 pub overflow_cast-len : goal.overflow_cast-len
 overflow_cast-len c =
     let r = c.requires in
-    let few = jobs_few r.0 r.1 c.args.planner.now r.2 r.3 r.4 r.5 r.7 r.6 in
+    let few = jobs_few r.1 in
     let len = c.args.planner.now.draft.jobs.ok.0 in
     let e = c.len.ensures in
     omega arith
@@ -24,14 +24,14 @@ overflow_cast-len c =
 pub overflow_add-result : goal.overflow_add-result
 overflow_add-result c =
     let r = c.requires in
-    let few = pieces_small r.0 r.1 c.args.planner.now r.2 r.3 r.4 r.5 r.7 r.6 in
-    let less : peak_of c.args.planner.now.world.store ≤ 8388608 = cells_small r.0 r.1 c.args.planner.now r.2 r.3 r.4 r.5 r.7 r.6 in
+    let few = pieces_small r.1 in
+    let less : peak_of c.args.planner.now.world.store ≤ 8388608 = cells_small r.1 in
     let is : c.replace-kernels.result.pieces ≡ c.args.planner.now.draft.pieces = ap (λ (w : Draft). w.pieces) c.replace-kernels.ensures.value in
     let cells : c.peak-cells.result ≡ peak_of c.args.planner.now.world.store = c.peak-cells.ensures in
     omega arith
 
 pub returns-clause-plan : goal.returns-clause-plan
-returns-clause-plan c script accepted names =
+returns-clause-plan c script names =
     let p = c.args.planner.now in
     let v : c.replace-kernels.result ≡ p.draft = c.replace-kernels.ensures.value in
     let last : Segment = record { waits = c.replace-kernels.result.waits; ops = c.replace-kernels.result.ops; starts = None } in
@@ -51,15 +51,9 @@ returns-clause-plan c script accepted names =
           ∙ ap (λ ids. waits_by p ++ unless_none ids) all;
       segments_later = last ∷ final ∷ [];
       segments = segments ∙ append_assoc p.draft.segments.items (last ∷ []) (final ∷ []);
-      done = λ table begun n found inside st.
-          is_done script table p begun n found st accepted inside _ last final
-          names
-          (ap (λ (w : Draft). w.kernels.items) v)
-          (ap (λ (w : Draft). w.codes.items) v)
-          (ap (λ (w : Draft). w.literals.items) v)
-          (ap (λ (w : Draft). w.jobs.items) v)
-          c.peak-cells.ensures
-          (ap (λ (w : Draft). w.first.items) v)
+      done = λ at. is_done at _ last final names
+          (ap (λ (w : Draft). w.kernels.items) v) (ap (λ (w : Draft). w.codes.items) v) (ap (λ (w : Draft). w.literals.items) v)
+          (ap (λ (w : Draft). w.jobs.items) v) c.peak-cells.ensures (ap (λ (w : Draft). w.first.items) v)
           (ap (λ (w : Draft). c.peak-cells.result + w.pieces) v)
           segments
           (ap (λ (w : Draft). w.waits.items) v)
@@ -69,7 +63,5 @@ returns-clause-plan c script accepted names =
           (λ j pos le. ap (λ ids. has_job ids j) all ∙ has_set (λ j. true) (length p.draft.jobs.items) j pos le)
           c.new.ensures.items
           refl;
-      within = λ table begun n found inside st.
-          subst (λ k. AreWithin k found (state_at script table n)) (sym c.peak-cells.ensures)
-          (live_low script table p begun n found st accepted inside);
+      within = λ at. subst (λ k. AreWithin k at.found (state_at script at.table at.n)) (sym c.peak-cells.ensures) (live_low at);
     }

@@ -21,21 +21,20 @@ pub refuse_test-requires : goal.refuse_test-requires
 refuse_test-requires c =
     let value : to_z w64 (of_z w64 c.in-When.value) ≡ c.in-When.value = omega (arith, ints) in
     record {
-      ready = sees c.args.script.now (columns_of c.args.table.now) c.args.planner.now c.args.statement.now c.requires (omega arith) _
+      ready = sees c.requires (omega arith) _
           (c.in-When.is ∙ (λ i. order.When c.in-When.name c.in-When.sign (sym value i) c.in-When.count));
     }
 
 pub take-requires : goal.take-requires
 take-requires c = record {
-  few = few_literals c.args.script.now (columns_of c.args.table.now) c.args.planner.now c.args.statement.now c.requires
+  few = few_literals c.requires
       (omega arith) _ refl;
 }
 
 pub returns-in_ok-take-in-Some-clause-passed : goal.returns-in_ok-take-in-Some-clause-passed
 returns-in_ok-take-in-Some-clause-passed c went =
     let value : to_z w64 (of_z w64 c.in-When.value) ≡ c.in-When.value = omega (arith, ints) in
-    taken c.args.script.now (columns_of c.args.table.now) c.args.planner.now c.args.statement.now c.requires (omega arith) _
-    (c.in-When.is ∙ (λ i. order.When c.in-When.name c.in-When.sign (sym value i) c.in-When.count))
+    taken c.requires (omega arith) _ (c.in-When.is ∙ (λ i. order.When c.in-When.name c.in-When.sign (sym value i) c.in-When.count))
     c.refuse_test.new.world c.take.new.self c.in-Some.answer (subst
     (IsDecided c.args.planner.now.world c.refuse_test.new.world
     (order.When c.in-When.name c.in-When.sign (to_z w64 (of_z w64 c.in-When.value)) c.in-When.count))
@@ -44,8 +43,7 @@ returns-in_ok-take-in-Some-clause-passed c went =
 pub returns-in_ok-take-in-Some-clause-past : goal.returns-in_ok-take-in-Some-clause-past
 returns-in_ok-take-in-Some-clause-past c went =
     let value : to_z w64 (of_z w64 c.in-When.value) ≡ c.in-When.value = omega (arith, ints) in
-    test_past c.args.script.now (columns_of c.args.table.now) c.args.planner.now c.args.statement.now c.requires (omega arith)
-    c.in-When.name c.in-When.sign (to_z w64 (of_z w64 c.in-When.value)) c.in-When.count
+    test_past c.requires (omega arith) c.in-When.name c.in-When.sign (to_z w64 (of_z w64 c.in-When.value)) c.in-When.count
     (c.in-When.is ∙ (λ i. order.When c.in-When.name c.in-When.sign (sym value i) c.in-When.count))
     (subst (IsDecided c.args.planner.now.world c.refuse_test.new.world
     (order.When c.in-When.name c.in-When.sign (to_z w64 (of_z w64 c.in-When.value)) c.in-When.count))
@@ -54,8 +52,7 @@ returns-in_ok-take-in-Some-clause-past c went =
 pub returns-in-None-clause-stops : goal.returns-in-None-clause-stops
 returns-in-None-clause-stops c stay =
     let value : to_z w64 (of_z w64 c.in-When.value) ≡ c.in-When.value = omega (arith, ints) in
-    test_stops c.args.script.now (columns_of c.args.table.now) c.args.planner.now c.args.statement.now c.requires (omega arith)
-    c.in-When.name c.in-When.sign (to_z w64 (of_z w64 c.in-When.value)) c.in-When.count
+    test_stops c.requires (omega arith) c.in-When.name c.in-When.sign (to_z w64 (of_z w64 c.in-When.value)) c.in-When.count
     (c.in-When.is ∙ (λ i. order.When c.in-When.name c.in-When.sign (sym value i) c.in-When.count))
     (subst (IsDecided c.args.planner.now.world c.refuse_test.new.world
     (order.When c.in-When.name c.in-When.sign (to_z w64 (of_z w64 c.in-When.value)) c.in-When.count))

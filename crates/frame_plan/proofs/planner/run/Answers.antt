@@ -5,7 +5,7 @@ use Rattle.plan_state.specs.Steps.{state_at}
 use Rattle.plan_statements.specs.Tables.{columns_of}
 use Rattle.plan_state.proofs.Accessing.{read_some}
 use Rattle.frame_plan.proofs.Acting.{err_is, one_past, past_end}
-use Rattle.frame_plan.proofs.Laying.{not_gone, gone_further}
+use Rattle.frame_plan.proofs.Laying.{not_gone, at_gone, gone_further}
 use Rattle.frame_plan.proofs.Passing.{stands_within}
 use Rattle.frame_plan.proofs.planner.run.Goals as goal
 
@@ -20,15 +20,8 @@ loop-at-init c = record {
 pub pass-requires : goal.pass-requires
 pass-requires c =
     let l = c.loop-at in
-    let r = l.invariant.gone c.requires.stands.0 c.requires.stands.1 c.requires.stands.2 in
-    record {
-      accepted = c.requires.accepted;
-      begun = c.requires.stands.0;
-      n = l.at;
-      found = c.requires.stands.1 ++ r.more;
-      here = read_some c.args.script.now.statements l.at c.index-statement.result.now (omega arith) c.index-statement.ensures;
-      stands = r.stands;
-    }
+    at_gone c.requires.accepted (l.invariant.gone c.requires.stands.0 c.requires.stands.1 c.requires.stands.2)
+    (read_some c.args.script.now.statements l.at c.index-statement.result.now (omega arith) c.index-statement.ensures)
 
 pub returns-in_err-pass-clause-fails : goal.returns-in_err-pass-clause-fails
 returns-in_err-pass-clause-fails c =
@@ -41,7 +34,7 @@ returns-in_err-pass-clause-fails c =
       n = l.at;
       here = (let len = c.args.script.now.statements.ok.0 in omega arith);
       within = stands_within l.planner (setting c.args.script.now t) begun l.at (state_at c.args.script.now t l.at) (c.requires.stands.1 ++ r.more) r.stands;
-      passes = c.in_err-pass.ensures.fails begun l.at (c.requires.stands.1 ++ r.more) here r.stands;
+      passes = c.in_err-pass.ensures.fails (at_gone c.requires.accepted r here);
     })
 
 pub returns-then-not-branch-clause-ran : goal.returns-then-not-branch-clause-ran
@@ -57,7 +50,7 @@ returns-then-not-branch-clause-ran c begun found st =
       inside = l.invariant.inside;
       between = l.invariant.between begun found st;
       stops = subst (IsStop (setting c.args.script.now t) (state_at c.args.script.now t l.at)) (sym here)
-          (c.in_ok-pass.ensures.stops c.if-not-branch.true begun l.at (found ++ r.more) here r.stands);
+          (c.in_ok-pass.ensures.stops c.if-not-branch.true (at_gone c.requires.accepted r here));
     }
 
 pub loop-at-preserved : goal.loop-at-preserved
@@ -70,15 +63,13 @@ loop-at-preserved c =
       rising = (let le = l.invariant.rising in omega arith);
       inside = (let len = c.args.script.now.statements.ok.0 in omega arith);
       between = λ begun found st n x low lt.
-          let r = l.invariant.gone begun found st in
-          one_past c.args.script.now t l.planner begun c.args.from l.at n (found ++ r.more) c.index-statement.result.now x here r.stands
+          one_past (at_gone c.requires.accepted (l.invariant.gone begun found st) here) c.args.from n x
           (c.in_ok-pass.ensures.past c.if-not-branch.false) (l.invariant.between begun found st) low (omega arith);
       gone = λ begun found st.
           let r = l.invariant.gone begun found st in
-          let q = c.in_ok-pass.ensures.passed c.if-not-branch.false begun l.at (found ++ r.more) here r.stands in
           subst (HasGone c.args.script.now t c.args.planner.now c.pass.new.planner begun c.args.from found) one
-          (gone_further c.args.script.now t c.args.planner.now l.planner c.pass.new.planner begun c.args.from l.at found c.index-statement.result.now here
-          l.invariant.rising r q);
+          (gone_further c.requires.accepted r here l.invariant.rising
+          (c.in_ok-pass.ensures.passed c.if-not-branch.false (at_gone c.requires.accepted r here)));
     }
 
 pub returns-clause-ran : goal.returns-clause-ran

@@ -17,8 +17,9 @@ schedule_by_list-requires c =
         r.0,
         r.1,
         r.2,
-        subst (λ cut. IsBefore c.args.script.now (record r.2 { world = c.args.world.now }) (deferring r.0 r.1 asked cut c.args.defer))
-            (uncut c.args.script.now r.3.table r.3.n r.0 r.1 asked asked.cut c.args.defer r.3.step) r.3,
+        r.3,
+        subst (λ cut. IsBefore c.args.script.now r.3 (record r.2 { world = c.args.world.now }) (deferring r.0 r.1 asked cut c.args.defer))
+            (uncut r.0 r.1 asked asked.cut c.args.defer r.4.step) r.4,
       );
     }
 
@@ -26,7 +27,7 @@ pub returns-clause-answers : goal.returns-clause-answers
 returns-clause-answers c =
     let r = c.requires.ready in
     let asked = c.args.job.now in
-    let none = uncut c.args.script.now r.3.table r.3.n r.0 r.1 asked asked.cut c.args.defer r.3.step in
+    let none = uncut r.0 r.1 asked asked.cut c.args.defer r.4.step in
     subst (λ cut. IfOk c.schedule_by_list.result (λ answer. (line : ℕ) (home : _) (table : Table) → SchedulesIn c.args.script.now table c.args.world.now
     c.schedule_by_list.new.world (deferring line home asked cut c.args.defer) answer)) (sym none) c.schedule_by_list.ensures.answers
 
@@ -34,7 +35,7 @@ pub returns-clause-takes : goal.returns-clause-takes
 returns-clause-takes c =
     let r = c.requires.ready in
     let asked = c.args.job.now in
-    let none = uncut c.args.script.now r.3.table r.3.n r.0 r.1 asked asked.cut c.args.defer r.3.step in
+    let none = uncut r.0 r.1 asked asked.cut c.args.defer r.4.step in
     subst (λ cut. IfOk c.schedule_by_list.result (λ answer. (line : ℕ) (home : _) → MayBeTaken c.args.script.now c.args.world.now
     (deferring line home asked cut c.args.defer) answer)) (sym none) c.schedule_by_list.ensures.takes
 
@@ -42,6 +43,6 @@ pub returns-clause-fails : goal.returns-clause-fails
 returns-clause-fails c =
     let r = c.requires.ready in
     let asked = c.args.job.now in
-    let none = uncut c.args.script.now r.3.table r.3.n r.0 r.1 asked asked.cut c.args.defer r.3.step in
+    let none = uncut r.0 r.1 asked asked.cut c.args.defer r.4.step in
     subst (λ cut. IfErr c.schedule_by_list.result (λ fault. (line : ℕ) (home : _) (table : Table) → ExceedsIn c.args.script.now table fault c.args.world.now
     (deferring line home asked cut c.args.defer))) (sym none) c.schedule_by_list.ensures.fails

@@ -16,8 +16,9 @@ schedule_plain-requires c =
         r.0,
         r.1,
         r.2,
-        subst (λ j. IsBefore c.args.script.now (record r.2 { world = c.args.world.now }) (asking r.0 r.1 j))
-            (without_list c.args.job.now c.in-None.is) r.3,
+        r.3,
+        subst (λ j. IsBefore c.args.script.now r.3 (record r.2 { world = c.args.world.now }) (asking r.0 r.1 j))
+            (without_list c.args.job.now c.in-None.is) r.4,
       );
     }
 
@@ -29,8 +30,9 @@ schedule_deferred-requires c =
         r.0,
         r.1,
         r.2,
-        subst (λ j. IsBefore c.args.script.now (record r.2 { world = c.args.world.now }) (asking r.0 r.1 j))
-            (with_list c.args.job.now _ c.in-Some.is) r.3,
+        r.3,
+        subst (λ j. IsBefore c.args.script.now r.3 (record r.2 { world = c.args.world.now }) (asking r.0 r.1 j))
+            (with_list c.args.job.now _ c.in-Some.is) r.4,
       );
     }
 

@@ -11,14 +11,12 @@ use Rattle.plan_statements.proofs.Ranges.NewContainers.{IsGiven, ready_name, rea
 use Rattle.plan_statements.proofs.making.column.Goals as goal
 
 pub take_words-requires-clause-slots : goal.take_words-requires-clause-slots
-take_words-requires-clause-slots c = ready_slots c.requires.ready.0 _ (record c.requires.ready.1 { world = c.args.world.now }) c.requires.ready.2
+take_words-requires-clause-slots c = ready_slots c.requires.ready.1.2
 
 pub returns-in_err-take_words-clause-fails : goal.returns-in_err-take_words-clause-fails
 returns-in_err-take_words-clause-fails c = handed_on c.from_residual.result c.in_err-take_words.field-0.0 _ c.from_residual.ensures.1
-    (λ script p begun n found step st.
-    fails script (columns_of c.args.table.now) begun n _ found (record p { world = c.args.world.now }) step st c.args.name c.args.life
-    (new_column (setting script (columns_of c.args.table.now)) c.args.column.now.items)
-    (column_makes script (columns_of c.args.table.now) n c.args.line c.args.name c.args.column.now c.args.life step)
+    (λ script p b.
+    fails b c.args.name c.args.life (new_column (setting script (columns_of c.args.table.now)) c.args.column.now.items) (column_makes b.step)
     c.in_err-take_words.field-0.0 c.len_of.result (c.len_of.ensures ∙ ap (λ o. length (unwrap_or o []))
     (c.column-values.ensures ∙ ap (λ n. column_named n c.args.table.now) c.as_slice.ensures.value))
     c.in_err-take_words.ensures.fails)
@@ -26,16 +24,12 @@ returns-in_err-take_words-clause-fails c = handed_on c.from_residual.result c.in
 pub refuse_full-requires : goal.refuse_full-requires
 refuse_full-requires c =
     let full = (subst (TakesUnlessFull c.args.world.now c.take_words.new.world c.len_of.result) c.in-None.is c.in_ok-take_words.ensures.taken) in
-    subst (λ (z : World). c.args.name < vec_len z.values) (sym full.1)
-    (ready_name c.requires.ready.0 _ (record c.requires.ready.1 { world = c.args.world.now }) c.requires.ready.2 c.args.name
-    (column_makes c.requires.ready.0 c.requires.ready.2.table c.requires.ready.2.n c.args.line c.args.name c.args.column.now c.args.life
-    c.requires.ready.2.step).below)
+    subst (λ (z : World). c.args.name < vec_len z.values) (sym full.1) (ready_name c.requires.ready.1.2 c.args.name
+    (column_makes c.requires.ready.1.2.step).below)
 
 pub returns-in-None-clause-answers : goal.returns-in-None-clause-answers
-returns-in-None-clause-answers c = λ script p draft took begun n found step st.
-    lost_goes_on script (columns_of c.args.table.now) begun n _ found (record p { world = c.args.world.now }) step st c.args.name c.args.life
-    (new_column (setting script (columns_of c.args.table.now)) c.args.column.now.items)
-    (column_makes script (columns_of c.args.table.now) n c.args.line c.args.name c.args.column.now c.args.life step)
+returns-in-None-clause-answers c = λ script p draft took b.
+    lost_goes_on b c.args.name c.args.life (new_column (setting script (columns_of c.args.table.now)) c.args.column.now.items) (column_makes b.step)
     c.take_words.new.world c.refuse_full.new.world draft c.len_of.result c.refuse_full.result
     (c.len_of.ensures ∙ ap (λ o. length (unwrap_or o [])) (c.column-values.ensures ∙ ap (λ n. column_named n c.args.table.now) c.as_slice.ensures.value))
     (subst (TakesUnlessFull c.args.world.now c.take_words.new.world c.len_of.result) c.in-None.is c.in_ok-take_words.ensures.taken)
@@ -45,22 +39,18 @@ pub enter-requires-clause-name : goal.enter-requires-clause-name
 enter-requires-clause-name c =
     as_many_names c.args.world.now c.take_words.new.world c.len_of.result c.in-Some.taken
     (subst (TakesUnlessFull c.args.world.now c.take_words.new.world c.len_of.result) c.in-Some.is c.in_ok-take_words.ensures.taken) c.args.name
-    (ready_name c.requires.ready.0 _ (record c.requires.ready.1 { world = c.args.world.now }) c.requires.ready.2 c.args.name
-    (column_makes c.requires.ready.0 c.requires.ready.2.table c.requires.ready.2.n c.args.line c.args.name c.args.column.now c.args.life
-    c.requires.ready.2.step).below)
+    (ready_name c.requires.ready.1.2 c.args.name (column_makes c.requires.ready.1.2.step).below)
 
 pub enter-requires-clause-few : goal.enter-requires-clause-few
 enter-requires-clause-few c =
     as_many_containers c.args.world.now c.take_words.new.world c.len_of.result c.in-Some.taken
     (subst (TakesUnlessFull c.args.world.now c.take_words.new.world c.len_of.result) c.in-Some.is c.in_ok-take_words.ensures.taken)
-    (ready_containers c.requires.ready.0 _ (record c.requires.ready.1 { world = c.args.world.now }) c.requires.ready.2)
+    (ready_containers c.requires.ready.1.2)
 
 pub returns-in_ok-enter-in-Some-clause-answers : goal.returns-in_ok-enter-in-Some-clause-answers
-returns-in_ok-enter-in-Some-clause-answers c = λ script p draft took begun n found step st.
+returns-in_ok-enter-in-Some-clause-answers c = λ script p draft took b.
     let words = (subst (TakesUnlessFull c.args.world.now c.take_words.new.world c.len_of.result) c.in-Some.is c.in_ok-take_words.ensures.taken) in
-    goes_on script (columns_of c.args.table.now) begun n _ found (record p { world = c.args.world.now }) step st c.args.name c.args.life
-    (new_column (setting script (columns_of c.args.table.now)) c.args.column.now.items)
-    (column_makes script (columns_of c.args.table.now) n c.args.line c.args.name c.args.column.now c.args.life step)
+    goes_on b c.args.name c.args.life (new_column (setting script (columns_of c.args.table.now)) c.args.column.now.items) (column_makes b.step)
     c.take_words.new.world c.enter.new.world draft c.in-Some.taken c.len_of.result
     (c.len_of.ensures ∙ ap (λ o. length (unwrap_or o [])) (c.column-values.ensures ∙ ap (λ n. column_named n c.args.table.now) c.as_slice.ensures.value))
     words _
@@ -69,7 +59,6 @@ returns-in_ok-enter-in-Some-clause-answers c = λ script p draft took begun n fo
     (c.column-values.ensures ∙ ap (λ n. column_named n c.args.table.now) c.as_slice.ensures.value)))
     c.in_ok-elements-in-Some.elements
     (subst (λ o. IsGiven o (new_column (setting script (columns_of c.args.table.now)) c.args.column.now.items)) (sym c.in_ok-elements-in-Some.ensures)
-    (column_is_given script (columns_of c.args.table.now) n c.args.line c.args.name c.args.column.now c.args.life step
-    (option_map (λ s. s.now) c.column-values.result)
+    (column_is_given b.step (option_map (λ s. s.now) c.column-values.result)
     (c.column-values.ensures ∙ ap (λ n. column_named n c.args.table.now) c.as_slice.ensures.value)))
     c.in_ok-enter-in-Some.ensures took

@@ -8,21 +8,17 @@ use Rattle.plan_statements.proofs.Ranges.NewContainers.{ready_name, ready_slots,
 use Rattle.plan_statements.proofs.making.list.Goals as goal
 
 pub take_words-requires-clause-slots : goal.take_words-requires-clause-slots
-take_words-requires-clause-slots c = ready_slots c.requires.ready.0 _ (record c.requires.ready.1 { world = c.args.world.now }) c.requires.ready.2
+take_words-requires-clause-slots c = ready_slots c.requires.ready.1.2
 
 pub refuse_full-requires : goal.refuse_full-requires
 refuse_full-requires c =
     let full = (subst (TakesUnlessFull c.args.world.now c.take_words.new.world (c.from.result + 1)) c.in-None.is c.in_ok-take_words.ensures.taken) in
-    subst (λ (z : World). c.args.name < vec_len z.values) (sym full.1)
-    (ready_name c.requires.ready.0 _ (record c.requires.ready.1 { world = c.args.world.now }) c.requires.ready.2 c.args.name
-    (list_makes c.requires.ready.0 c.requires.ready.2.table c.requires.ready.2.n c.args.line c.args.name c.args.cap c.args.life
-    c.requires.ready.2.step).below)
+    subst (λ (z : World). c.args.name < vec_len z.values) (sym full.1) (ready_name c.requires.ready.1.2 c.args.name
+    (list_makes c.requires.ready.1.2.step).below)
 
 pub returns-in-None-clause-answers : goal.returns-in-None-clause-answers
-returns-in-None-clause-answers c = λ script table p draft took begun n found step st.
-    lost_goes_on script table begun n _ found (record p { world = c.args.world.now }) step st c.args.name c.args.life
-    (new_list c.args.cap)
-    (list_makes script table n c.args.line c.args.name c.args.cap c.args.life step)
+returns-in-None-clause-answers c = λ script table p draft took b.
+    lost_goes_on b c.args.name c.args.life (new_list c.args.cap) (list_makes b.step)
     c.take_words.new.world c.refuse_full.new.world draft (c.from.result + 1) c.refuse_full.result
     (ap (λ k. k + 1) c.from.ensures)
     (subst (TakesUnlessFull c.args.world.now c.take_words.new.world (c.from.result + 1)) c.in-None.is c.in_ok-take_words.ensures.taken)
@@ -32,22 +28,18 @@ pub enter-requires-clause-name : goal.enter-requires-clause-name
 enter-requires-clause-name c =
     as_many_names c.args.world.now c.take_words.new.world (c.from.result + 1) c.in-Some.taken
     (subst (TakesUnlessFull c.args.world.now c.take_words.new.world (c.from.result + 1)) c.in-Some.is c.in_ok-take_words.ensures.taken) c.args.name
-    (ready_name c.requires.ready.0 _ (record c.requires.ready.1 { world = c.args.world.now }) c.requires.ready.2 c.args.name
-    (list_makes c.requires.ready.0 c.requires.ready.2.table c.requires.ready.2.n c.args.line c.args.name c.args.cap c.args.life
-    c.requires.ready.2.step).below)
+    (ready_name c.requires.ready.1.2 c.args.name (list_makes c.requires.ready.1.2.step).below)
 
 pub enter-requires-clause-few : goal.enter-requires-clause-few
 enter-requires-clause-few c =
     as_many_containers c.args.world.now c.take_words.new.world (c.from.result + 1) c.in-Some.taken
     (subst (TakesUnlessFull c.args.world.now c.take_words.new.world (c.from.result + 1)) c.in-Some.is c.in_ok-take_words.ensures.taken)
-    (ready_containers c.requires.ready.0 _ (record c.requires.ready.1 { world = c.args.world.now }) c.requires.ready.2)
+    (ready_containers c.requires.ready.1.2)
 
 pub returns-in_ok-enter-in-Some-clause-answers : goal.returns-in_ok-enter-in-Some-clause-answers
-returns-in_ok-enter-in-Some-clause-answers c = λ script table p draft took begun n found step st.
+returns-in_ok-enter-in-Some-clause-answers c = λ script table p draft took b.
     let words = (subst (TakesUnlessFull c.args.world.now c.take_words.new.world (c.from.result + 1)) c.in-Some.is c.in_ok-take_words.ensures.taken) in
-    goes_on script table begun n _ found (record p { world = c.args.world.now }) step st c.args.name c.args.life
-    (new_list c.args.cap)
-    (list_makes script table n c.args.line c.args.name c.args.cap c.args.life step)
+    goes_on b c.args.name c.args.life (new_list c.args.cap) (list_makes b.step)
     c.take_words.new.world c.enter.new.world draft c.in-Some.taken (c.from.result + 1)
     (ap (λ k. k + 1) c.from.ensures)
     words _

@@ -9,30 +9,23 @@ use Rattle.plan_statements.proofs.Ranges.NewContainers.{ready_name, ready_slots,
 use Rattle.plan_statements.proofs.making.map.Goals as goal
 
 pub take_words-requires-clause-slots : goal.take_words-requires-clause-slots
-take_words-requires-clause-slots c = ready_slots c.requires.ready.0 _ (record c.requires.ready.1 { world = c.args.world.now }) c.requires.ready.2
+take_words-requires-clause-slots c = ready_slots c.requires.ready.1.2
 
 pub returns-in_err-take_words-clause-fails : goal.returns-in_err-take_words-clause-fails
 returns-in_err-take_words-clause-fails c = handed_on c.from_residual.result c.in_err-take_words.field-0.0 _ c.from_residual.ensures.1
-    (λ script table p begun n found step st.
-    fails script table begun n _ found (record p { world = c.args.world.now }) step st c.args.name c.args.life
-    (new_map c.args.cap)
-    (map_makes script table n c.args.line c.args.name c.args.cap c.args.life step)
-    c.in_err-take_words.field-0.0 c.words_of.result c.words_of.ensures.words
+    (λ script table p b.
+    fails b c.args.name c.args.life (new_map c.args.cap) (map_makes b.step) c.in_err-take_words.field-0.0 c.words_of.result c.words_of.ensures.words
     c.in_err-take_words.ensures.fails)
 
 pub refuse_full-requires : goal.refuse_full-requires
 refuse_full-requires c =
     let full = (subst (TakesUnlessFull c.args.world.now c.take_words.new.world c.words_of.result) c.in-None.is c.in_ok-take_words.ensures.taken) in
-    subst (λ (z : World). c.args.name < vec_len z.values) (sym full.1)
-    (ready_name c.requires.ready.0 _ (record c.requires.ready.1 { world = c.args.world.now }) c.requires.ready.2 c.args.name
-    (map_makes c.requires.ready.0 c.requires.ready.2.table c.requires.ready.2.n c.args.line c.args.name c.args.cap c.args.life
-    c.requires.ready.2.step).below)
+    subst (λ (z : World). c.args.name < vec_len z.values) (sym full.1) (ready_name c.requires.ready.1.2 c.args.name
+    (map_makes c.requires.ready.1.2.step).below)
 
 pub returns-in-None-clause-answers : goal.returns-in-None-clause-answers
-returns-in-None-clause-answers c = λ script table p draft took begun n found step st.
-    lost_goes_on script table begun n _ found (record p { world = c.args.world.now }) step st c.args.name c.args.life
-    (new_map c.args.cap)
-    (map_makes script table n c.args.line c.args.name c.args.cap c.args.life step)
+returns-in-None-clause-answers c = λ script table p draft took b.
+    lost_goes_on b c.args.name c.args.life (new_map c.args.cap) (map_makes b.step)
     c.take_words.new.world c.refuse_full.new.world draft c.words_of.result c.refuse_full.result
     c.words_of.ensures.words
     (subst (TakesUnlessFull c.args.world.now c.take_words.new.world c.words_of.result) c.in-None.is c.in_ok-take_words.ensures.taken)
@@ -42,23 +35,18 @@ pub enter-requires-clause-name : goal.enter-requires-clause-name
 enter-requires-clause-name c =
     as_many_names c.args.world.now c.take_words.new.world c.words_of.result c.in-Some.taken
     (subst (TakesUnlessFull c.args.world.now c.take_words.new.world c.words_of.result) c.in-Some.is c.in_ok-take_words.ensures.taken) c.args.name
-    (ready_name c.requires.ready.0 _ (record c.requires.ready.1 { world = c.args.world.now }) c.requires.ready.2 c.args.name
-    (map_makes c.requires.ready.0 c.requires.ready.2.table c.requires.ready.2.n c.args.line c.args.name c.args.cap c.args.life
-    c.requires.ready.2.step).below)
+    (ready_name c.requires.ready.1.2 c.args.name (map_makes c.requires.ready.1.2.step).below)
 
 pub enter-requires-clause-few : goal.enter-requires-clause-few
 enter-requires-clause-few c =
     as_many_containers c.args.world.now c.take_words.new.world c.words_of.result c.in-Some.taken
     (subst (TakesUnlessFull c.args.world.now c.take_words.new.world c.words_of.result) c.in-Some.is c.in_ok-take_words.ensures.taken)
-    (ready_containers c.requires.ready.0 _ (record c.requires.ready.1 { world = c.args.world.now }) c.requires.ready.2)
+    (ready_containers c.requires.ready.1.2)
 
 pub returns-in_ok-enter-in-Some-clause-answers : goal.returns-in_ok-enter-in-Some-clause-answers
-returns-in_ok-enter-in-Some-clause-answers c = λ script table p draft took begun n found step st.
+returns-in_ok-enter-in-Some-clause-answers c = λ script table p draft took b.
     let words = (subst (TakesUnlessFull c.args.world.now c.take_words.new.world c.words_of.result) c.in-Some.is c.in_ok-take_words.ensures.taken) in
-    goes_on script table begun n _ found (record p { world = c.args.world.now }) step st c.args.name c.args.life
-    (new_map c.args.cap)
-    (map_makes script table n c.args.line c.args.name c.args.cap c.args.life step)
-    c.take_words.new.world c.enter.new.world draft c.in-Some.taken c.words_of.result
+    goes_on b c.args.name c.args.life (new_map c.args.cap) (map_makes b.step) c.take_words.new.world c.enter.new.world draft c.in-Some.taken c.words_of.result
     c.words_of.ensures.words
     words _
     (ap Map c.new-at.ensures)

@@ -16,7 +16,7 @@ test_refusal-requires-clause-there c = let r = c.requires.ready in
 
 pub returns-in-None : goal.returns-in-None
 returns-in-None c = record {
-  decided = (refl, λ line p script table begun n found step st. sym (c.in-None.ensures (setting script table) (state_at script table n) found st.knows));
+  decided = (refl, λ line p script table b. sym (c.in-None.ensures (setting script table) (state_at script table b.n) b.found b.stands.knows));
 }
 
 pub returns-in-Some : goal.returns-in-Some
@@ -24,7 +24,7 @@ returns-in-Some c = record {
   decided = (
     λ line p draft took. test_refused (record p { world = c.args.world.now }) line c.args.name c.args.sign c.args.value c.args.count
         (record p { world = c.args.world.now; draft = draft }) c.in-Some.refusal c.in-Some.ensures (was_pushed p c.args.world.now draft _ took),
-    λ line p script table begun n found step st none.
-        none_some (sym none ∙ sym (c.in-Some.ensures (setting script table) (state_at script table n) found st.knows)),
+    λ line p script table b none.
+        none_some (sym none ∙ sym (c.in-Some.ensures (setting script table) (state_at script table b.n) b.found b.stands.knows)),
   );
 }

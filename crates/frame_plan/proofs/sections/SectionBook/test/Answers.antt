@@ -8,7 +8,7 @@ use Rattle.frame_ast.specs.States.{ScriptState}
 use Rattle.frame_plan.specs.declared.section.Test.{Test}
 use Rattle.frame_plan.specs.References.{IsOfTest, IsTestFor}
 use Rattle.frame_plan.specs.Runs.{IsActingTest, IsStop}
-use Rattle.plan_state.specs.Steps.{state_at}
+use Rattle.plan_state.specs.Steps.{state_at, IsBefore}
 use Rattle.plan_state.proofs.Accessing.{read_some}
 use Rattle.frame_plan.proofs.References.{reference}
 use Rattle.frame_plan.proofs.sections.SectionBook.test.Goals as goal
@@ -21,9 +21,14 @@ reference_of-requires c =
     let g = setting c.args.script.now r.0 in
     let s = state_at c.args.script.now r.0 at in
     let acts = subst (IsActingTest g s) c.in-When.is (subst (IsStop g s) here r.2.stops) in
-    reference c.args.script.now r.0 c.args.self.now.planner (state_at c.args.script.now r.0 r.1) at r.2.found c.index.result.now r.2.stands
-    (record { accepted = r.2.accepted; here = here; acts = acts.0 })
-    c.in-When.name c.in-When.sign c.in-When.value c.in-When.count c.in-When.is acts.1
+    let b : IsBefore c.args.script.now r.0 c.args.self.now.planner c.index.result.now = record {
+      begun = state_at c.args.script.now r.0 r.1;
+      n = at;
+      found = r.2.found;
+      step = record { accepted = r.2.accepted; here = here; acts = acts.0 };
+      stands = r.2.stands;
+    } in
+    reference b c.in-When.name c.in-When.sign c.in-When.value c.in-When.count c.in-When.is acts.1
 
 no_other : (g : Setting) (s : ScriptState) (a : Order) → IsActingTest g s a
     → ((name : ℕ) (sign : Sign) (value : ℤ) (count : ℕ) → a ≡ When name sign value count → ⊥) → ⊥
