@@ -80,34 +80,43 @@ fn holds(test: &Test, cells: &mut FlatMem, words: u32) -> Result<bool, Fail>
     Ok(test.sign.holds(number, test.bound))
 }
 
+// How far a script is gone through: its book, the answer to the last test, the cells that were left, and what was told.
+#[derive(Drop)]
+struct Walk {
+    book: SectionBook,
+    held: Option<bool>,
+    cells: FlatMem,
+    told: String,
+}
+
 // Plans the next section, runs it and decides its test. The answer says whether there is one.
 fn go_on<R: Threads + Wait + Sync>(
     rt: &R,
     alloc: Global,
     script: &Script,
     table: &Table,
-    book: &mut SectionBook,
-    held: &mut Option<bool>,
-    cells: &mut FlatMem,
-    told: &mut String,
+    walk: &mut Walk,
     sink: &mut MemSink,
 ) -> Result<bool, Fail>
-    requires here { IsBetween script.now (columns_of table.now) book.old held.old cells.old }
+    requires here { IsBetween script.now (columns_of table.now) walk.old.book walk.old.held walk.old.cells }
     ensures next { IfOk result (λ more. more ≡ true
-        → IsBetween script.now (columns_of table.now) book.new held.new cells.new) }
+        → IsBetween script.now (columns_of table.now) walk.new.book walk.new.held walk.new.cells) }
 {
-    let section = book.next(alloc, script, table, *held, cells)?;
-    write!(told, "{} jobs before", section.jobs_before)?;
-    *cells = run_plan(rt, alloc, &section.plan, 2, sink)?;
+    let section = walk
+        .book
+        .next(alloc, script, table, walk.held, &mut walk.cells)?;
+    write!(walk.told, "{} jobs before", section.jobs_before)?;
+    let cells = run_plan(rt, alloc, &section.plan, 2, sink)?;
+    walk.cells = cells;
     let Section { plan, test, .. } = section;
     let Some(test) = test else {
         return Ok(false);
     };
-    let answer = holds(&test, cells, plan.words)?;
-    *held = Some(answer);
-    book.take_back(plan);
+    let answer = holds(&test, &mut walk.cells, plan.words)?;
+    walk.held = Some(answer);
+    walk.book.take_back(plan);
     write!(
-        told,
+        walk.told,
         ", {:?} {} of word {}: {answer}; ",
         test.sign, test.bound, test.at.start
     )?;
@@ -124,18 +133,20 @@ fn outcomes_with<R: Threads + Wait + Sync>(
 ) -> Result<String, Fail>
     requires { IsAccepted script.now }
 {
-    let mut told = String::new(alloc);
-    let mut book = SectionBook::new(alloc, script, table)?;
-    let mut held = None;
-    let mut cells = FlatMem::new(alloc, 0)?;
+    let book = SectionBook::new(alloc, script, table)?;
+    let cells = FlatMem::new(alloc, 0)?;
+    let mut walk = Walk {
+        book,
+        held: None,
+        cells,
+        told: String::new(alloc),
+    };
     for _ in 0..8 {
-        if !go_on(
-            rt, alloc, script, table, &mut book, &mut held, &mut cells, &mut told, sink,
-        )? {
+        if !go_on(rt, alloc, script, table, &mut walk, sink)? {
             break;
         }
     }
-    Ok(told)
+    Ok(walk.told)
 }
 
 // The same of the script that has these lines.

@@ -131,27 +131,28 @@ where
     );
 }
 
-// Runs a plan by turns: those of the script on this thread, and those of a helper on one thread for each other place.
-fn run_places<'x, R: Threads + Wait + Sync, P: ShowsPlan + Sync, B: Board + Sync, S: Sink>(
+// Runs a plan by turns in a room: those of the script on this thread, and those of a helper on one thread for each
+// other place.
+fn run_room<'x, R: Threads + Wait + Sync, P: ShowsPlan + Sync, B: Board + Sync, S: Sink>(
     rt: &'x R,
     plan: &'x P,
     board: &'x B,
-    shared: &'x Shared,
-    first: &mut Place<B::Seat>,
-    others: &mut [Place<B::Seat>],
+    room: &'x mut PoolRoom<B::Seat>,
     out: &mut Outgoing,
     sink: &mut S,
 ) -> RunEnd
 where
     B::Seat: Send + Drop,
-    requires crew { IsCrewOf (P.shown plan.now) (B.plan board.now) shared.now }
-    requires first { IsFirst B.home B.know (B.name board.now) 0 first.old }
-    requires others { All (IsReady B.home B.know (B.name board.now)) others.old }
-    requires many { length others.old < MOST_WORKERS }
-    ensures first { IsFirst B.home B.know (B.name board.now) (length (P.shown plan.now).segments.items) first.new }
+    requires plan { P.shown plan.now ≡ B.plan board.now }
+    requires well { IsWellOrderedPlan (P.shown plan.now) }
+    requires room { IsRoomOf B.home B.know (P.shown plan.now) (B.name board.now) room.old }
+    ensures room { IsRunRoom B.home B.know (P.shown plan.now) (B.name board.now) room.new }
     ensures run { RunsBetween S.taken S.faults (P.shown plan.now) (plan_lines (P.shown plan.now))
         sink.old out.old sink.new out.new result }
 {
+    let shared = &room.shared;
+    let first = &mut room.first;
+    let others = &mut room.others[..];
     let mut f = ||
         requires { IsSync R.row
             × IsCrewOf (P.shown plan.now) (B.plan board.now) shared.now
@@ -168,36 +169,6 @@ where
     { run_script(rt, plan.plan(), board, shared, first, out, sink) };
     let (_, end) = join_mut(rt, &mut f, &mut g);
     end
-}
-
-// Runs a plan by turns in a room.
-fn run_room<R: Threads + Wait + Sync, P: ShowsPlan + Sync, B: Board + Sync, S: Sink>(
-    rt: &R,
-    plan: &P,
-    board: &B,
-    room: &mut PoolRoom<B::Seat>,
-    out: &mut Outgoing,
-    sink: &mut S,
-) -> RunEnd
-where
-    B::Seat: Send + Drop,
-    requires plan { P.shown plan.now ≡ B.plan board.now }
-    requires well { IsWellOrderedPlan (P.shown plan.now) }
-    requires room { IsRoomOf B.home B.know (P.shown plan.now) (B.name board.now) room.old }
-    ensures room { IsRunRoom B.home B.know (P.shown plan.now) (B.name board.now) room.new }
-    ensures run { RunsBetween S.taken S.faults (P.shown plan.now) (plan_lines (P.shown plan.now))
-        sink.old out.old sink.new out.new result }
-{
-    run_places(
-        rt,
-        plan,
-        board,
-        &room.shared,
-        &mut room.first,
-        &mut room.others,
-        out,
-        sink,
-    )
 }
 
 // Runs a plan by turns on a new board, whose seats are as they were made, and gives the cells that it left.

@@ -16,4 +16,3 @@ pub mod Settling
 mod Sources
 pub mod Telling
 mod Whens
-pub mod Shared

@@ -13,6 +13,7 @@ use crate::sections::run_sections;
 use crate::status::{DONE, NO_MEMORY, UNWRITTEN};
 use crate::texts::{refuse_column, refuse_plan, refuse_script};
 use crate::watch::Watch;
+use crate::workers::Workers;
 use frame_ast::kernel::FaultKind;
 use frame_ast::script::{Order, Script};
 use frame_plan::{SectionBook, missing_column, plan};
@@ -122,8 +123,13 @@ fn answer_run<R: Threads + Wait + Sync, S: Sink, W: Watch>(
         → HasSeen (W.Saw script.now watch.old watch.new) script.now (columns_of table.now) }
     ensures later { S.faults sink.old ≤ S.faults sink.new }
 {
+    let workers = Workers {
+        rt,
+        alloc,
+        count: workers,
+    };
     match SectionBook::new(alloc, script, table) {
-        Ok(book) => run_sections(rt, alloc, script, table, workers, book, sink, watch),
+        Ok(book) => run_sections(&workers, script, table, book, sink, watch),
         Err(fault) => refuse_plan(fault, sink),
     }
 }

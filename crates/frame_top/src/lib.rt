@@ -39,6 +39,7 @@ pub mod status;
 mod texts;
 mod top;
 mod watch;
+mod workers;
 
 pub use alone::run_source;
 pub use extent::Extent;
@@ -49,3 +50,4 @@ pub use sections::{Progress, begin_frame, close, finish, next_section, run_secti
 pub use texts::{refuse_plan, refuse_script, refuse_source, refuse_table, say};
 pub use top::{answer_command, run_frame, run_watched};
 pub use watch::{GateAlone, Watch};
+pub use workers::Workers;

@@ -7,7 +7,8 @@ ghost use Rattle.frame_core.specs.Output.{plan_lines};
 ghost use Rattle.plan_run.specs.Runs.{RunsBetween};
 ghost use Rattle.frame_top.specs.Cells.{AreCellsOf, HasRunPlan};
 
-use crate::section::{SectionRun, SpareLists};
+use crate::section::{Asked, SectionRun, SpareLists};
+use crate::workers::Workers;
 use frame_core::{Board, Plan};
 use frame_print::Outgoing;
 use job_base::{FlatMem, Gate, NoMemory, NullSink, Sink};
@@ -54,15 +55,13 @@ fn cells_for(plan: &Plan, keeps: bool, spare: Vec<i64>) -> Result<FlatMem, NoMem
     Ok(FlatMem::of(cells))
 }
 
-// Runs a plan with so many workers. All that the run needs is made before its first piece is begun, and is as large as
+// Runs a plan with these workers. All that the run needs is made before its first piece is begun, and is as large as
 // the plan asks for.
 //
 // The plan stands behind a type parameter: beside a board and a room the checker can't show that threads may share it.
 fn run_shown<R: Threads + Wait + Sync, P: ShowsPlan + Sync, S: Sink, G: Gate + Sync>(
-    rt: &R,
-    alloc: Global,
+    workers: &Workers<R>,
     plan: &P,
-    workers: u32,
     keeps: bool,
     spare: &mut SpareLists,
     out: &mut Outgoing,
@@ -70,16 +69,17 @@ fn run_shown<R: Threads + Wait + Sync, P: ShowsPlan + Sync, S: Sink, G: Gate + S
     gate: &G,
 ) -> Result<BoardRun, NoMemory>
     requires well { IsWellOrderedPlan (P.shown plan.now) }
-    requires workers { (1 ≤ workers) × (workers ≤ MOST_WORKERS) }
+    requires workers { (1 ≤ workers.now.count) × (workers.now.count ≤ MOST_WORKERS) }
     ensures run { IfOk result (λ r. RunsBetween S.taken S.faults (P.shown plan.now) (plan_lines (P.shown plan.now))
         sink.old out.old sink.new out.new r.end) }
     ensures left { IfOk result (λ r. keeps ≡ true → AreCellsOf (P.shown plan.now) r.left) }
     ensures none { OnErr result ((sink.new ≡ sink.old) × (out.new ≡ out.old)) }
     ensures later { S.faults sink.old ≤ S.faults sink.new }
 {
+    let alloc = workers.alloc;
     let cells = mem::replace(&mut spare.cells, Vec::new(alloc));
     let mut left = cells_for(plan.plan(), keeps, cells)?;
-    let seats = busy_workers(plan.plan(), workers);
+    let seats = busy_workers(plan.plan(), workers.count);
     let (board, made) = WordBoard::make_in(alloc, plan.plan(), seats, &mut spare.words)?;
     if !keeps {
         // No section comes after this one, so the list would only take memory while it runs.
@@ -87,7 +87,7 @@ fn run_shown<R: Threads + Wait + Sync, P: ShowsPlan + Sync, S: Sink, G: Gate + S
     }
     let mut room = PoolRoom::make(alloc, plan.plan(), made)?;
     rooms_are_ready::<WordBoard>();
-    let end = run_lines(rt, plan, &board, &mut room, out, sink, gate);
+    let end = run_lines(workers.rt, plan, &board, &mut room, out, sink, gate);
     if !keeps {
         return Ok(BoardRun { end, left });
     }
@@ -97,10 +97,8 @@ fn run_shown<R: Threads + Wait + Sync, P: ShowsPlan + Sync, S: Sink, G: Gate + S
 
 // The same of a plan as it is.
 fn run_plan<R: Threads + Wait + Sync, S: Sink, G: Gate + Sync>(
-    rt: &R,
-    alloc: Global,
+    workers: &Workers<R>,
     plan: &Plan,
-    workers: u32,
     keeps: bool,
     spare: &mut SpareLists,
     out: &mut Outgoing,
@@ -108,14 +106,12 @@ fn run_plan<R: Threads + Wait + Sync, S: Sink, G: Gate + Sync>(
     gate: &G,
 ) -> Result<SectionRun, NoMemory>
     requires well { IsWellOrderedPlan plan.now }
-    requires workers { (1 ≤ workers) × (workers ≤ MOST_WORKERS) }
+    requires workers { (1 ≤ workers.now.count) × (workers.now.count ≤ MOST_WORKERS) }
     ensures run { IfOk result (HasRunPlan S.taken S.faults plan.now keeps sink.old out.old false sink.new out.new) }
     ensures none { OnErr result ((sink.new ≡ sink.old) × (out.new ≡ out.old)) }
     ensures later { S.faults sink.old ≤ S.faults sink.new }
 {
-    let BoardRun { end, left } = run_shown(
-        rt, alloc, plan, workers, keeps, spare, out, sink, gate,
-    )?;
+    let BoardRun { end, left } = run_shown(workers, plan, keeps, spare, out, sink, gate)?;
     match end {
         RunEnd::Done(report) => Ok(SectionRun {
             report,
@@ -130,41 +126,29 @@ fn run_plan<R: Threads + Wait + Sync, S: Sink, G: Gate + Sync>(
     }
 }
 
-/// Runs a plan with so many workers, and lets its lines wait in `out`, unless a write has `failed` before. `keeps` says
-/// whether the cells are needed afterwards. Large lists are those of `spare`.
+/// Runs a plan with these workers as it is [`Asked`], and lets its lines wait in `out`. Large lists are those of
+/// `spare`.
 pub fn run_on_board<R: Threads + Wait + Sync, S: Sink, G: Gate + Sync>(
-    rt: &R,
-    alloc: Global,
+    workers: &Workers<R>,
     plan: &Plan,
-    workers: u32,
-    keeps: bool,
-    failed: bool,
+    asked: Asked,
     spare: &mut SpareLists,
     out: &mut Outgoing,
     sink: &mut S,
     gate: &G,
 ) -> Result<SectionRun, NoMemory>
     requires well { IsWellOrderedPlan plan.now }
-    requires workers { (1 ≤ workers) × (workers ≤ MOST_WORKERS) }
-    ensures run { IfOk result (HasRunPlan S.taken S.faults plan.now keeps sink.old out.old failed sink.new out.new) }
+    requires workers { (1 ≤ workers.now.count) × (workers.now.count ≤ MOST_WORKERS) }
+    ensures run { IfOk result (HasRunPlan S.taken S.faults plan.now asked.keeps sink.old out.old asked.failed
+        sink.new out.new) }
     ensures none { OnErr result ((sink.new ≡ sink.old) × (out.new ≡ out.old)) }
     ensures later { S.faults sink.old ≤ S.faults sink.new }
 {
-    if !failed {
-        return run_plan(rt, alloc, plan, workers, keeps, spare, out, sink, gate);
+    if !asked.failed {
+        return run_plan(workers, plan, asked.keeps, spare, out, sink, gate);
     }
     let mut nowhere = NullSink::new();
-    let run = run_plan(
-        rt,
-        alloc,
-        plan,
-        workers,
-        keeps,
-        spare,
-        out,
-        &mut nowhere,
-        gate,
-    )?;
+    let run = run_plan(workers, plan, asked.keeps, spare, out, &mut nowhere, gate)?;
     Ok(SectionRun {
         report: run.report,
         failed: true,

@@ -21,9 +21,10 @@ ghost use Rattle.frame_top.specs.Seen.{HasSeen, SectionAt, SeesOne, has_run};
 ghost use Rattle.frame_top.specs.declared.status.TheConstants.{NO_MEMORY, UNWRITTEN};
 
 use crate::extent::Extent;
-use crate::section::{SectionRun, SpareLists, run_section};
+use crate::section::{Asked, SectionRun, SpareLists, run_section};
 use crate::status::{DONE, NO_MEMORY, STATEMENT_REFUSED, TRAPPED, UNWRITTEN};
 use crate::watch::Watch;
+use crate::workers::Workers;
 use frame_ast::script::Script;
 use frame_core::Report;
 use frame_plan::{Section, SectionBook, Test};
@@ -168,18 +169,16 @@ pub fn take_run(
 
 // Runs the next section, and says whether there is one after it.
 fn run_next_section<R: Threads + Wait + Sync, S: Sink, W: Watch>(
-    rt: &R,
-    alloc: Global,
+    workers: &Workers<R>,
     script: &Script,
     table: &Table,
-    workers: u32,
     book: &mut SectionBook,
     progress: &mut Progress,
     sink: &mut S,
     watch: &mut W,
 ) -> Result<bool, NoMemory>
     requires accepted { IsAccepted script.now }
-    requires workers { (1 ≤ workers) × (workers ≤ MOST_WORKERS) }
+    requires workers { (1 ≤ workers.now.count) × (workers.now.count ≤ MOST_WORKERS) }
     requires here { (sections : ℕ) × (from : ℕ) × (sections ≤ MOST_TESTS)
         × HasRun script.now (columns_of table.now) sections from book.old progress.old }
     ensures next { (sections from : ℕ) → HasRun script.now (columns_of table.now) sections from book.old progress.old
@@ -194,6 +193,7 @@ fn run_next_section<R: Threads + Wait + Sync, S: Sink, W: Watch>(
     ensures waits { OnErr result (progress.new.out ≡ progress.old.out) }
     ensures failed { OnErr result (progress.new.failed ≡ progress.old.failed) }
 {
+    let alloc = workers.alloc;
     let from = next_place(book, progress) as usize;
     let section = next_section(alloc, script, table, book, progress)?;
     let extent = Extent {
@@ -202,7 +202,10 @@ fn run_next_section<R: Threads + Wait + Sync, S: Sink, W: Watch>(
         held: progress.held,
     };
     watch.begin(alloc, script, extent, &section)?;
-    let keeps = section.test.is_some();
+    let asked = Asked {
+        keeps: section.test.is_some(),
+        failed: progress.failed,
+    };
     let cells = mem::replace(&mut progress.cells, FlatMem::of(Vec::new(alloc)));
     let words = mem::replace(&mut progress.words, Vec::new(alloc));
     let mut spare = SpareLists {
@@ -210,12 +213,9 @@ fn run_next_section<R: Threads + Wait + Sync, S: Sink, W: Watch>(
         words,
     };
     let ran = run_section(
-        rt,
-        alloc,
-        &section.plan,
         workers,
-        keeps,
-        progress.failed,
+        &section.plan,
+        asked,
         &mut spare,
         &mut progress.out,
         sink,
@@ -271,17 +271,15 @@ fn no_report() -> Report
 /// written. Lines wait in one buffer, from one section to the next; where memory for a section runs out, those that
 /// wait are still written. After a failed write the other sections are run all the same, and nothing more is written.
 pub fn run_sections<R: Threads + Wait + Sync, S: Sink, W: Watch>(
-    rt: &R,
-    alloc: Global,
+    workers: &Workers<R>,
     script: &Script,
     table: &Table,
-    workers: u32,
     first: SectionBook,
     sink: &mut S,
     watch: &mut W,
 ) -> u8
     requires accepted { IsAccepted script.now }
-    requires workers { (1 ≤ workers) × (workers ≤ MOST_WORKERS) }
+    requires workers { (1 ≤ workers.now.count) × (workers.now.count ≤ MOST_WORKERS) }
     requires begins { (carried : Cells) (len : ℕ) → IsAt first script.now (columns_of table.now) 0 carried len }
     ensures answer { AnswersTo S.taken S.faults sink.old sink.new
         (λ a. a ≡ answer (status_of script.now (columns_of table.now)) (output_of script.now (columns_of table.now)))
@@ -291,17 +289,15 @@ pub fn run_sections<R: Threads + Wait + Sync, S: Sink, W: Watch>(
         → HasSeen (W.Saw script.now watch.old watch.new) script.now (columns_of table.now) }
     ensures later { S.faults sink.old ≤ S.faults sink.new }
 {
-    let Ok(mut progress) = begin_frame(alloc) else {
+    let Ok(mut progress) = begin_frame(workers.alloc) else {
         return NO_MEMORY;
     };
     let mut book = first;
     for _section in 0..MOST_TESTS + 1 {
         match run_next_section(
-            rt,
-            alloc,
+            workers,
             script,
             table,
-            workers,
             &mut book,
             &mut progress,
             sink,

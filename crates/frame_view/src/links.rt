@@ -15,6 +15,15 @@ use plan_waits::{Arrow, Cause};
 use std::alloc::Global;
 use view_text::{Link, Tie};
 
+// What the arrows of a plan are drawn from. Before its jobs the script has so many others.
+#[derive(Clone, Copy)]
+struct Scene<'a> {
+    script: &'a Script,
+    plan: &'a Plan,
+    depth: &'a Depth,
+    before: u32,
+}
+
 fn tie_of(cause: Cause, is_step: bool) -> Tie
     ensures { result ≡ tie_of cause is_step }
 {
@@ -37,24 +46,21 @@ fn args_of<'a>(script: &'a Script, story: &Story, j: usize) -> &'a [Arg] {
 // The arrow of a wait. What the script completed may have given its words back, so such an arrow names no containers.
 fn link_of(
     alloc: Global,
-    script: &Script,
-    plan: &Plan,
-    depth: &Depth,
-    before: u32,
+    scene: &Scene<'_>,
     args: &[Arg],
     later: JobId,
     arrow: Arrow,
 ) -> Result<Link, NoMemory>
-    ensures { IfOk result (λ link. line_of link ≡ arrow_line depth.now before later.0 arrow) }
+    ensures { IfOk result (λ link. line_of link ≡ arrow_line scene.now.depth.now scene.now.before later.0 arrow) }
 {
     let label = match arrow.cause {
-        Cause::Depends => label_of(alloc, script, plan, arrow.from, later, args)?,
+        Cause::Depends => label_of(alloc, scene.script, scene.plan, arrow.from, later, args)?,
         Cause::Completed => String::new(alloc),
     };
     Ok(Link {
-        from: before.saturating_add(arrow.from.0),
-        to: before.saturating_add(later.0),
-        tie: tie_of(arrow.cause, is_step(&depth.chain, arrow.from, later)),
+        from: scene.before.saturating_add(arrow.from.0),
+        to: scene.before.saturating_add(later.0),
+        tie: tie_of(arrow.cause, is_step(&scene.depth.chain, arrow.from, later)),
         label,
     })
 }
@@ -62,20 +68,17 @@ fn link_of(
 // Adds the arrows of a job.
 fn add_arrows(
     alloc: Global,
-    script: &Script,
-    plan: &Plan,
-    depth: &Depth,
-    before: u32,
+    scene: &Scene<'_>,
     args: &[Arg],
     later: JobId,
     arrows: &[Arrow],
     links: &mut Vec<Link>,
 ) -> Result<(), NoMemory>
     ensures { OnOk result (map line_of links.new.items ≡ map line_of links.old.items
-        ++ map (arrow_line depth.now before later.0) arrows.now) }
+        ++ map (arrow_line scene.now.depth.now scene.now.before later.0) arrows.now) }
 {
     for arrow in arrows {
-        let link = link_of(alloc, script, plan, depth, before, args, later, *arrow)?;
+        let link = link_of(alloc, scene, args, later, *arrow)?;
         links.push(link)?;
     }
     Ok(())
@@ -94,13 +97,17 @@ pub(crate) fn links_of(
     requires few { length found.now ≤ MOST_JOBS }
     ensures { IfOk result (λ links. map line_of links.items ≡ arrow_lines depth.now before 1 found.now) }
 {
+    let scene = Scene {
+        script,
+        plan,
+        depth,
+        before,
+    };
     let mut links = Vec::new(alloc);
     for j in 0..found.len() {
         let later = JobId(j as u32 + 1);
         let args = args_of(script, story, j);
-        add_arrows(
-            alloc, script, plan, depth, before, args, later, &found[j], &mut links,
-        )?;
+        add_arrows(alloc, &scene, args, later, &found[j], &mut links)?;
     }
     Ok(links)
 }

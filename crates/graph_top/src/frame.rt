@@ -17,7 +17,7 @@ use frame_ast::script::Script;
 use frame_plan::{SectionBook, plan};
 use frame_print::print_text;
 use frame_top::status::{DONE, NO_MEMORY, UNWRITTEN, has_run};
-use frame_top::{first_when, refuse_missing, refuse_plan, run_sections};
+use frame_top::{Workers, first_when, refuse_missing, refuse_plan, run_sections};
 use job_base::{NoMemory, NullSink, Sink};
 use std::alloc::Global;
 use std::sync::Wait;
@@ -91,16 +91,12 @@ fn run_text<R: Threads + Wait + Sync>(
 {
     let mut watch = DrawingWatch::new(alloc, style.workers, style.dot)?;
     let mut nowhere = NullSink::new();
-    let status = run_sections(
+    let workers = Workers {
         rt,
         alloc,
-        script,
-        table,
-        style.workers,
-        first,
-        &mut nowhere,
-        &mut watch,
-    );
+        count: style.workers,
+    };
+    let status = run_sections(&workers, script, table, first, &mut nowhere, &mut watch);
     if has_run(status) {
         Ok(watch.into_text())
     } else {

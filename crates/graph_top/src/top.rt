@@ -12,7 +12,7 @@ ghost use Rattle.graph_top.specs.Drawn.{DrawsTo, IsFrameDrawing};
 ghost use Rattle.graph_top.specs.Due.{CommandEndsTo, GivesNote, GivesPicture, GraphEndsTo, IsDrawable, graph_usage_line};
 
 use crate::frame::{Style, answer_frame};
-use command_words::{Command, WordsFault};
+use command_words::WordsFault;
 use frame_ast::script::Script;
 use frame_script::{LoadFault, parse_script};
 use frame_top::status::{NO_MEMORY, PAST_LIMIT, UNREAD, USAGE};
@@ -29,33 +29,35 @@ use std::thread::Threads;
 fn answer_script<R: Threads + Wait + Sync, F: Files, S: Sink, E: Sink>(
     rt: &R,
     alloc: Global,
-    command: &Command,
-    dot: bool,
+    graph: &GraphCommand,
     script: &Script,
     files: &mut F,
     sink: &mut S,
     notes: &mut E,
 ) -> u8
     requires accepted { IsAccepted script.now }
-    requires read { (words : List Text) × IsAsked words command.now × ReadsScript words (F.bytes files.old) script.now }
-    ensures drawn { (words : List Text) → IsAsked words command.now → ReadsScript words (F.bytes files.old) script.now
-        → DrawsTo S.taken S.faults sink.old sink.new (IsFrameDrawing words (F.bytes files.old) dot) result }
-    ensures ends { (words : List Text) → IsAsked words command.now → ReadsScript words (F.bytes files.old) script.now
+    requires read { (words : List Text) × IsAsked words graph.now.command
+        × ReadsScript words (F.bytes files.old) script.now }
+    ensures drawn { (words : List Text) → IsAsked words graph.now.command
+        → ReadsScript words (F.bytes files.old) script.now
+        → DrawsTo S.taken S.faults sink.old sink.new (IsFrameDrawing words (F.bytes files.old) graph.now.dot) result }
+    ensures ends { (words : List Text) → IsAsked words graph.now.command
+        → ReadsScript words (F.bytes files.old) script.now
         → CommandEndsTo F.bytes F.faults F.last_failed S.faults E.taken E.faults files.old files.new sink.old sink.new
         notes.old notes.new words result }
     ensures sink_later { S.faults sink.old ≤ S.faults sink.new }
     ensures notes_later { E.faults notes.old ≤ E.faults notes.new }
     ensures files_later { F.faults files.old ≤ F.faults files.new }
 {
-    let bytes = match read_table_file(alloc, command, files) {
+    let bytes = match read_table_file(alloc, &graph.command, files) {
         Ok(bytes) => bytes,
         Err(FileFault::Failed) => return say(UNREAD, b"cannot read table\n", notes),
         Err(FileFault::TooLong) => return say(PAST_LIMIT, b"limit: table size\n", notes),
         Err(FileFault::NoMemory) => return NO_MEMORY,
     };
     let style = Style {
-        workers: options_of(command).workers,
-        dot,
+        workers: options_of(&graph.command).workers,
+        dot: graph.dot,
     };
     match parse_table(alloc, &bytes) {
         Ok(table) => answer_frame(rt, alloc, script, &table, style, sink, notes),
@@ -67,30 +69,29 @@ fn answer_script<R: Threads + Wait + Sync, F: Files, S: Sink, E: Sink>(
 fn answer_command<R: Threads + Wait + Sync, F: Files, S: Sink, E: Sink>(
     rt: &R,
     alloc: Global,
-    command: &Command,
-    dot: bool,
+    graph: &GraphCommand,
     files: &mut F,
     sink: &mut S,
     notes: &mut E,
 ) -> u8
-    requires asked { (words : List Text) × IsAsked words command.now }
-    ensures drawn { (words : List Text) → IsAsked words command.now
-        → DrawsTo S.taken S.faults sink.old sink.new (IsFrameDrawing words (F.bytes files.old) dot) result }
-    ensures ends { (words : List Text) → IsAsked words command.now
+    requires asked { (words : List Text) × IsAsked words graph.now.command }
+    ensures drawn { (words : List Text) → IsAsked words graph.now.command
+        → DrawsTo S.taken S.faults sink.old sink.new (IsFrameDrawing words (F.bytes files.old) graph.now.dot) result }
+    ensures ends { (words : List Text) → IsAsked words graph.now.command
         → CommandEndsTo F.bytes F.faults F.last_failed S.faults E.taken E.faults files.old files.new sink.old sink.new
         notes.old notes.new words result }
     ensures sink_later { S.faults sink.old ≤ S.faults sink.new }
     ensures notes_later { E.faults notes.old ≤ E.faults notes.new }
     ensures files_later { F.faults files.old ≤ F.faults files.new }
 {
-    let source = match read_source(alloc, command, files) {
+    let source = match read_source(alloc, &graph.command, files) {
         Ok(source) => source,
         Err(FileFault::Failed) => return say(UNREAD, b"cannot read script\n", notes),
         Err(FileFault::TooLong) => return say(PAST_LIMIT, b"limit: script size\n", notes),
         Err(FileFault::NoMemory) => return NO_MEMORY,
     };
     match parse_script(alloc, &source) {
-        Ok(script) => answer_script(rt, alloc, command, dot, &script, files, sink, notes),
+        Ok(script) => answer_script(rt, alloc, graph, &script, files, sink, notes),
         Err(LoadFault::Refused { line, kind }) => refuse_source(line, kind, notes),
         Err(LoadFault::NoMemory) => NO_MEMORY,
     }
@@ -115,9 +116,7 @@ fn answer_words<R: Threads + Wait + Sync, F: Files, S: Sink, E: Sink>(
     ensures files_later { F.faults files.old ≤ F.faults files.new }
 {
     match read_graph_words(alloc, words) {
-        Ok(GraphCommand { command, dot }) => answer_command(
-            rt, alloc, &command, dot, files, sink, notes,
-        ),
+        Ok(graph) => answer_command(rt, alloc, &graph, files, sink, notes),
         Err(WordsFault::Usage) => say(
             USAGE,
             b"usage: frame_graph [--workers N] [--dot] SCRIPT [TABLE] or frame_graph [--workers N] [--dot] --gen \

@@ -7,7 +7,7 @@ use Rattle.frame_top.proofs.sections.run_next_section.Goals as goal
 
 pub returns-clause-next : goal.returns-clause-next
 returns-clause-next g c sections from was =
-    said_on g.S.Sink.taken g.S.Sink.faults _ _ sections from _ c.args.progress.now _ _ c.in_ok-section.section.plan c.is_some-keeps.result _ _ _ _ _
+    said_on g.S.Sink.taken g.S.Sink.faults _ _ sections from _ c.args.progress.now _ _ c.in_ok-section.section.plan c.is_some.result _ _ _ _ _
     c.in_ok-ran.ran
     (c.take_run.ensures.goes _ _ sections from (c.in_ok-section.ensures.made sections from was))
     c.in_ok-ran.ensures.run c.in_ok-section.ensures.waits c.in_ok-section.ensures.failed c.take_run.ensures.waits c.take_run.ensures.failed
@@ -31,7 +31,7 @@ take_run-requires-clause-made g c =
     (c.args.script.now, columns_of c.args.table.now, h.0, h.1, c.requires.accepted, h.2, c.in_ok-section.ensures.made h.0 h.1 h.3)
 
 pub take_run-requires-clause-cells : goal.take_run-requires-clause-cells
-take_run-requires-clause-cells g c some = c.in_ok-ran.ensures.run.cells (c.is_some-keeps.ensures ∙ some)
+take_run-requires-clause-cells g c some = c.in_ok-ran.ensures.run.cells (c.is_some.ensures ∙ some)
 
 pub begin-requires-clause-well : goal.begin-requires-clause-well
 begin-requires-clause-well g c =

@@ -21,7 +21,7 @@ returns-in-Ok-parse_script-clause-drawn g c words asked =
             c.in-Ok-parse_script.ensures.script;
       };
     } in
-    subst (λ t. DrawsTo g.S.Sink.taken g.S.Sink.faults c.args.sink.now c.answer_script.new.sink (IsFrameDrawing words t c.args.dot)
+    subst (λ t. DrawsTo g.S.Sink.taken g.S.Sink.faults c.args.sink.now c.answer_script.new.sink (IsFrameDrawing words t c.args.graph.now.dot)
     c.answer_script.result) told
     (c.answer_script.ensures.drawn words asked (subst (λ t. ReadsScript words t c.in-Ok-parse_script.script) (sym told) read))
 
