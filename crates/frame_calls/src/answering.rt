@@ -101,7 +101,12 @@ fn read_text(held: &Held, out: &mut [u8], out_len: &mut usize) -> u8
 {
     match held {
         Held::Answered(answer) => leave(&answer.text, out, out_len),
-        _ => NOT_NOW,
+        Held::Lost
+        | Held::Columns(_)
+        | Held::Read(_)
+        | Held::Between(_)
+        | Held::Underway(_)
+        | Held::Helping(_) => NOT_NOW,
     }
 }
 

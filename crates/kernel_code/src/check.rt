@@ -12,6 +12,7 @@ mod expressions;
 mod kernels;
 mod names;
 mod nodes;
+mod operators;
 mod params;
 mod plain;
 mod resolve;

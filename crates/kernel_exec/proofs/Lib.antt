@@ -3,6 +3,7 @@ pub mod Reading
 pub mod Changing
 pub mod Stand
 pub mod Rights
+pub mod Taken
 pub mod Ends
 pub mod Using
 pub mod Touching

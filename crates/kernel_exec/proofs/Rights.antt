@@ -19,16 +19,14 @@ use Rattle.native_list.specs.declared.ListAt.{ListAt}
 use Rattle.native_list.specs.Words.{len_words}
 use Rattle.native_list.specs.Conditions.{MayAdd, MayRemove}
 use Rattle.native_list.proofs.Standing.{length_within}
-use Rattle.native_map.specs.declared.MapAt.{MapAt}
 use Rattle.native_stream.specs.declared.StreamAt.{StreamAt}
 use Rattle.native_stream.specs.Layout.{mark_word, index_end}
 use Rattle.native_stream.proofs.Places.{in_place, row_before}
 use Rattle.kernel_exec.specs.declared.binds.Bind.{Bind}
 use Rattle.kernel_exec.specs.declared.binds.Bind.TheVariants.{Int, Array, View, List as WholeList, Ref, Map, Stream}
-use Rattle.kernel_exec.specs.Binds.{end_of, IsWordOf, width_if, no_bind, bind_at, kind_of}
+use Rattle.kernel_exec.specs.Binds.{end_of, IsWordOf, width_if, no_bind, bind_at}
 use Rattle.kernel_exec.specs.Footprint.{Own, Uses, IsLength, ReadsBy, WritesBy, IsRead, IsWritten}
 use Rattle.kernel_exec.specs.Conditions.{BindsFit, IsCall, IsBegun}
-use Rattle.kernel_exec.specs.Words.{clear_word}
 use Rattle.kernel_exec.proofs.AtBinds.{bind_is, bind_none, bind_here}
 use Rattle.kernel_exec.proofs.Stand.{each_of, param_of, written_bind}
 
@@ -221,28 +219,6 @@ not_stream ListKind a h e = cc
 not_stream RefKind a h e = cc
 not_stream MapKind a h e = cc
 not_stream StreamKind a h e = cc
-
-clears_none : (b : Bind) (cells : ℕ → ℤ) → kind_of b ≢ StreamKind → ((at : ListAt) → b ≢ WholeList at) → ((at : MapAt) → b ≢ Map at)
-    → cells ≡ clear_word b cells
-clears_none (Int z) cells kind list map = refl
-clears_none (Array at own) cells kind list map = refl
-clears_none (View at own) cells kind list map = refl
-clears_none (WholeList at) cells kind list map = absurd (list at refl)
-clears_none (Ref at) cells kind list map = refl
-clears_none (Map at) cells kind list map = absurd (map at refl)
-clears_none (Stream at own) cells kind list map = absurd (kind refl)
-
-pub clear_other : (kernel : Kernel) (binds : List Bind) (x : ℕ) (b : Bind) (cells : ℕ → ℤ) → BindsFit kernel binds → b ≡ bind_at binds x
-    → IsTrue (meets kernel.params.items x clearable) → ((at : ListAt) → b ≢ WholeList at) → ((at : MapAt) → b ≢ Map at)
-    → cells ≡ clear_word (bind_at binds x) cells
-clear_other kernel binds x b cells fit is h list map =
-    let p = param_met clearable (slice_get kernel.params.items x) h in
-    let inside = slice_get_within kernel.params.items x p.0 p.1 in
-    let count = fit.count in
-    let here = bind_here binds x (omega arith) in
-    let kind = fit.kinds x p.0 (bind_at binds x) p.1 here in
-    let met : IsTrue (param_meets clearable (Some p.0)) = subst (λ o. IsTrue (param_meets clearable o)) p.1 h in
-    clears_none (bind_at binds x) cells (λ e. not_stream p.0.kind p.0.access met (sym kind ∙ e)) (λ at e. list at (is ∙ e)) (λ at e. map at (is ∙ e))
 
 -- the words of an index that was begun
 pub begun_index : (at : StreamAt) (own : Bool) (b : Bind) (index : ℕ) (i z : ℤ) → Stream at own ≡ b → z ≡ i → IsBegun b index i → (w : ℕ)

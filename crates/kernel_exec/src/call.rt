@@ -49,7 +49,12 @@ fn own_array_at(x: usize, binds: &[Bind]) -> ArrayAt
 {
     match &binds[x] {
         Bind::Array { at, own } => { if *own <= 1 { *at } else { NONE } }
-        _ => NONE,
+        Bind::Int(_)
+        | Bind::View { .. }
+        | Bind::List(_)
+        | Bind::Ref(_)
+        | Bind::Map(_)
+        | Bind::Stream { .. } => NONE,
     }
 }
 

@@ -43,7 +43,18 @@ pub fn param_with(part: Part, place: TokenAt, param: RawParam) -> RawParam
             ..param
         },
         Part::Name => fresh(place),
-        _ => param,
+        Part::Nothing
+        | Part::Parameter
+        | Part::Statement
+        | Part::Atom
+        | Part::Operator
+        | Part::Ends(_)
+        | Part::Joins
+        | Part::Closes(_)
+        | Part::Heads
+        | Part::Block
+        | Part::Nests(_)
+        | Part::Branches => param,
     }
 }
 
@@ -78,7 +89,16 @@ pub fn change_node(part: Part, place: TokenAt, behind: u32, node: &mut RawNode)
             node.form = RawForm::IfElse;
             node.after = behind;
         }
-        _ => {}
+        Part::Nothing
+        | Part::Access(_)
+        | Part::Container(_)
+        | Part::Stream
+        | Part::Width
+        | Part::Parameter
+        | Part::Statement
+        | Part::Atom
+        | Part::Operator
+        | Part::Number => {}
     }
 }
 

@@ -14,7 +14,23 @@ pub fn first_left(part: Part, first: u32) -> u32
 {
     match part {
         Part::Ends(_) => MOST_KEPT,
-        _ => first,
+        Part::Nothing
+        | Part::Access(_)
+        | Part::Container(_)
+        | Part::Stream
+        | Part::Width
+        | Part::Parameter
+        | Part::Statement
+        | Part::Atom
+        | Part::Operator
+        | Part::Number
+        | Part::Name
+        | Part::Joins
+        | Part::Closes(_)
+        | Part::Heads
+        | Part::Block
+        | Part::Nests(_)
+        | Part::Branches => first,
     }
 }
 

@@ -421,25 +421,3 @@ module _ (raw : RawKernel) (at : ℕ) (node : RawNode) (m : Meaning) (ok : IsFau
         before = λ others r. branched x o (subst (λ k. BlockOf raw k first body.items) (sym p1) one)
             (subst (λ k. BlockOf raw k second other.items) (sym p2) two) r;
       }
-
--- the default
-pub rest-group : (f : RawForm) → (f ≡ form.Var → ⊥) → (f ≡ form.SetName → ⊥) → (f ≡ form.SetRemove → ⊥) → (f ≡ form.AddItem → ⊥) → (f ≡ form.Remove → ⊥)
-    → (f ≡ form.Write → ⊥) →
-    (f ≡ form.SetPlace → ⊥) → (f ≡ form.SetTryAdd → ⊥) → (f ≡ form.AddPair → ⊥) → (f ≡ form.Begin → ⊥) → (f ≡ form.If → ⊥) → (f ≡ form.IfElse → ⊥)
-    → (f ≡ form.For → ⊥) → (f ≡ form.While → ⊥) →
-    group_of f ≤ 1
-rest-group form.Var a b c d e f g h i j k l m n = absurd (a refl)
-rest-group form.SetName a b c d e f g h i j k l m n = absurd (b refl)
-rest-group form.SetRemove a b c d e f g h i j k l m n = absurd (c refl)
-rest-group form.AddItem a b c d e f g h i j k l m n = absurd (d refl)
-rest-group form.Remove a b c d e f g h i j k l m n = absurd (e refl)
-rest-group form.Write a b c d e f g h i j k l m n = absurd (f refl)
-rest-group form.SetPlace a b c d e f g h i j k l m n = absurd (g refl)
-rest-group form.SetTryAdd a b c d e f g h i j k l m n = absurd (h refl)
-rest-group form.AddPair a b c d e f g h i j k l m n = absurd (i refl)
-rest-group form.Begin a b c d e f g h i j k l m n = absurd (j refl)
-rest-group form.If a b c d e f g h i j k l m n = absurd (k refl)
-rest-group form.IfElse a b c d e f g h i j k l m n = absurd (l refl)
-rest-group form.For a b c d e f g h i j k l m n = absurd (m refl)
-rest-group form.While a b c d e f g h i j k l m n = absurd (n refl)
-rest-group x a b c d e f g h i j k l m n = omega arith

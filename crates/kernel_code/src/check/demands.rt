@@ -127,7 +127,29 @@ pub fn variable_fault(form: RawForm) -> Option<FaultKind>
 {
     match form {
         RawForm::Name | RawForm::SetName => None,
-        _ => Some(FaultKind::KindMismatch),
+        RawForm::Number
+        | RawForm::Index
+        | RawForm::Element
+        | RawForm::Length
+        | RawForm::Has
+        | RawForm::Count
+        | RawForm::Item
+        | RawForm::Unary
+        | RawForm::Binary
+        | RawForm::Var
+        | RawForm::SetPlace
+        | RawForm::SetTryAdd
+        | RawForm::SetRemove
+        | RawForm::AddItem
+        | RawForm::AddPair
+        | RawForm::Remove
+        | RawForm::Clear
+        | RawForm::Write
+        | RawForm::Begin
+        | RawForm::If
+        | RawForm::IfElse
+        | RawForm::For
+        | RawForm::While => Some(FaultKind::KindMismatch),
     }
 }
 
@@ -138,7 +160,29 @@ pub fn loop_variable_fault(form: RawForm) -> Option<FaultKind>
     match form {
         RawForm::Name => None,
         RawForm::SetName => Some(FaultKind::WriteOfReadOnly),
-        _ => Some(FaultKind::KindMismatch),
+        RawForm::Number
+        | RawForm::Index
+        | RawForm::Element
+        | RawForm::Length
+        | RawForm::Has
+        | RawForm::Count
+        | RawForm::Item
+        | RawForm::Unary
+        | RawForm::Binary
+        | RawForm::Var
+        | RawForm::SetPlace
+        | RawForm::SetTryAdd
+        | RawForm::SetRemove
+        | RawForm::AddItem
+        | RawForm::AddPair
+        | RawForm::Remove
+        | RawForm::Clear
+        | RawForm::Write
+        | RawForm::Begin
+        | RawForm::If
+        | RawForm::IfElse
+        | RawForm::For
+        | RawForm::While => Some(FaultKind::KindMismatch),
     }
 }
 
@@ -148,7 +192,8 @@ pub fn answer_kind_fault(kind: ParamKind) -> Option<FaultKind>
 {
     match kind {
         ParamKind::Int => Some(FaultKind::WriteOfReadOnly),
-        _ => Some(FaultKind::KindMismatch),
+        ParamKind::Array | ParamKind::List | ParamKind::Ref | ParamKind::Map | ParamKind::Stream =>
+            Some(FaultKind::KindMismatch),
     }
 }
 

@@ -11,13 +11,14 @@ ghost use Rattle.frame_ast.specs.declared.kernel.Expr.TheVariants.{Negative', No
 ghost use Rattle.kernel_raw.specs.Raw.{RawExpr};
 ghost use Rattle.kernel_raw.specs.RawTexts.{value_at};
 ghost use Rattle.kernel_code.specs.Known.{number_named};
-ghost use Rattle.kernel_code.specs.Trees.{kind_at, is_minus, operator_of, joint_of};
+ghost use Rattle.kernel_code.specs.Trees.{kind_at, joint_of};
 ghost use Rattle.kernel_code.specs.Places.{value_named, leaf_of, IsOneOf, IsJoint, IsHere, IsAtomHere, Begins, IsBuilt, IsResolved};
 
 use crate::check::names::{Meaning, Named};
 use crate::check::nodes::MOST_NUMBER;
+use crate::check::operators::{is_minus, operator_of};
 use crate::check::texts::value_at;
-use frame_ast::kernel::{Expr, Operator};
+use frame_ast::kernel::Expr;
 use frame_grammar::{TokenAt, TokenKind};
 use job_base::NoMemory;
 use kernel_raw::{RawForm, RawKernel, RawNode};
@@ -91,7 +92,7 @@ fn value_named(named: Option<Named>) -> Expr
     }
 }
 
-// The expression of a node with nothing under it.
+// The expression of a node with nothing under it. Of the forms of the last arm only `index` is one.
 fn leaf_expression(raw: &RawKernel<'_>, node: RawNode, named: Option<Named>) -> Expr
     ensures { result ≡ leaf_of raw.now node.form node.at named }
 {
@@ -99,7 +100,28 @@ fn leaf_expression(raw: &RawKernel<'_>, node: RawNode, named: Option<Named>) -> 
         RawForm::Number => Expr::Number(number_at(raw, node.at)),
         RawForm::Name => value_named(named),
         RawForm::Length => Expr::Length(number_of(named)),
-        _ => Expr::Index,
+        RawForm::Index
+        | RawForm::Element
+        | RawForm::Has
+        | RawForm::Count
+        | RawForm::Item
+        | RawForm::Unary
+        | RawForm::Binary
+        | RawForm::Var
+        | RawForm::SetName
+        | RawForm::SetPlace
+        | RawForm::SetTryAdd
+        | RawForm::SetRemove
+        | RawForm::AddItem
+        | RawForm::AddPair
+        | RawForm::Remove
+        | RawForm::Clear
+        | RawForm::Write
+        | RawForm::Begin
+        | RawForm::If
+        | RawForm::IfElse
+        | RawForm::For
+        | RawForm::While => Expr::Index,
     }
 }
 
@@ -114,7 +136,7 @@ fn unary(is_minus: bool, inner: Box<Expr>) -> Expr
     }
 }
 
-// The expression of a node with one expression under it.
+// The expression of a node with one expression under it. Of the forms of the last arm only a unary operator is one.
 fn one_operand(
     alloc: Global,
     raw: &RawKernel<'_>,
@@ -129,31 +151,28 @@ fn one_operand(
         RawForm::Element => Ok(Expr::Element(number_of(named), inner)),
         RawForm::Has => Ok(Expr::Has(number_of(named), inner)),
         RawForm::Count => Ok(Expr::Count(number_of(named), inner)),
-        _ => Ok(unary(is_minus(kind_at(raw, node.at)), inner)),
-    }
-}
-
-fn is_minus(kind: TokenKind) -> bool
-    ensures { result ≡ is_minus kind }
-{
-    matches!(kind, TokenKind::Minus)
-}
-
-fn operator_of(kind: TokenKind) -> Operator
-    ensures { result ≡ operator_of kind }
-{
-    match kind {
-        TokenKind::Equal => Operator::Equal,
-        TokenKind::NotEqual => Operator::NotEqual,
-        TokenKind::Less => Operator::Less,
-        TokenKind::LessEqual => Operator::LessEqual,
-        TokenKind::Greater => Operator::Greater,
-        TokenKind::GreaterEqual => Operator::GreaterEqual,
-        TokenKind::Plus => Operator::Plus,
-        TokenKind::Minus => Operator::Minus,
-        TokenKind::Star => Operator::Times,
-        TokenKind::Slash => Operator::Divide,
-        _ => Operator::Remainder,
+        RawForm::Unary
+        | RawForm::Number
+        | RawForm::Index
+        | RawForm::Name
+        | RawForm::Length
+        | RawForm::Item
+        | RawForm::Binary
+        | RawForm::Var
+        | RawForm::SetName
+        | RawForm::SetPlace
+        | RawForm::SetTryAdd
+        | RawForm::SetRemove
+        | RawForm::AddItem
+        | RawForm::AddPair
+        | RawForm::Remove
+        | RawForm::Clear
+        | RawForm::Write
+        | RawForm::Begin
+        | RawForm::If
+        | RawForm::IfElse
+        | RawForm::For
+        | RawForm::While => { Ok(unary(is_minus(kind_at(raw, node.at)), inner)) }
     }
 }
 
@@ -228,7 +247,26 @@ fn atom(
                 next: second.next,
             })
         }
-        _ => Ok(Built {
+        RawForm::Number
+        | RawForm::Index
+        | RawForm::Name
+        | RawForm::Length
+        | RawForm::Binary
+        | RawForm::Var
+        | RawForm::SetName
+        | RawForm::SetPlace
+        | RawForm::SetTryAdd
+        | RawForm::SetRemove
+        | RawForm::AddItem
+        | RawForm::AddPair
+        | RawForm::Remove
+        | RawForm::Clear
+        | RawForm::Write
+        | RawForm::Begin
+        | RawForm::If
+        | RawForm::IfElse
+        | RawForm::For
+        | RawForm::While => Ok(Built {
             expr: leaf_expression(raw, node, named),
             next: at + 1,
         }),

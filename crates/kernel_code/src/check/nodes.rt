@@ -22,6 +22,13 @@ use kernel_raw::{RawForm, RawKernel, RawNode};
 /// The greatest number of a kernel's text.
 pub const MOST_NUMBER: u64 = 9_223_372_036_854_775_807;
 
+// What is known where a node stands: the locals before it, and the blocks that have begun there.
+#[derive(Clone, Copy)]
+struct Scope<'a> {
+    locals: &'a [Local],
+    blocks: &'a [StreamBlock],
+}
+
 // What a node's token is, where it is a name before an effect.
 fn answer_named(
     raw: &RawKernel<'_>,
@@ -180,33 +187,76 @@ fn token_fault(
             answer_fault(raw, answer),
             length_fault(text_at(raw, node.at)),
         ),
-        _ => atom_fault(raw, node),
+        RawForm::Number
+        | RawForm::Index
+        | RawForm::Name
+        | RawForm::Element
+        | RawForm::Length
+        | RawForm::Has
+        | RawForm::Count
+        | RawForm::Item
+        | RawForm::Unary
+        | RawForm::Binary
+        | RawForm::Var
+        | RawForm::SetName
+        | RawForm::SetPlace
+        | RawForm::AddItem
+        | RawForm::AddPair
+        | RawForm::Remove
+        | RawForm::Clear
+        | RawForm::Write
+        | RawForm::Begin
+        | RawForm::If
+        | RawForm::IfElse
+        | RawForm::For
+        | RawForm::While => atom_fault(raw, node),
     }
 }
 
 // What a node's name says, where it has one.
 fn name_fault(
     raw: &RawKernel<'_>,
-    locals: &[Local],
-    blocks: &[StreamBlock],
+    scope: Scope<'_>,
     number: usize,
     node: &RawNode,
     name: &[u8],
     named: Option<Named>,
 ) -> Option<FaultKind>
     requires some { IsTrue (has_name node.now.form) }
-    requires locals { locals.now ≡ locals_before raw.now.nodes.items number }
-    requires blocks { AreBegun raw.now number blocks.now }
+    requires locals { scope.locals.now ≡ locals_before raw.now.nodes.items number }
+    requires blocks { AreBegun raw.now number scope.blocks.now }
     requires name { name.now ≡ text_at raw.now node.now.name }
     requires named { named ≡ meaning_of raw.now number name.now }
     ensures { result ≡ name_fault raw.now number node.now.name node.now.form }
 {
     match node.form {
-        RawForm::Var | RawForm::For => declared_fault(raw, locals, number, name, named),
-        _ => lowest(
-            use_fault(raw, blocks, number, node.form, named),
+        RawForm::Var | RawForm::For => declared_fault(raw, scope.locals, number, name, named),
+        RawForm::Name
+        | RawForm::Element
+        | RawForm::Length
+        | RawForm::Has
+        | RawForm::Count
+        | RawForm::Item
+        | RawForm::SetName
+        | RawForm::SetPlace
+        | RawForm::SetTryAdd
+        | RawForm::SetRemove
+        | RawForm::AddItem
+        | RawForm::AddPair
+        | RawForm::Remove
+        | RawForm::Clear
+        | RawForm::Write
+        | RawForm::Begin => lowest(
+            use_fault(raw, scope.blocks, number, node.form, named),
             length_fault(name),
         ),
+        RawForm::Number
+        | RawForm::Index
+        | RawForm::Unary
+        | RawForm::Binary
+        | RawForm::If
+        | RawForm::IfElse
+        | RawForm::While => unreachable!(),
     }
 }
 
@@ -245,8 +295,7 @@ fn nameless_fault(
 // deep.
 fn named_fault(
     raw: &RawKernel<'_>,
-    locals: &[Local],
-    blocks: &[StreamBlock],
+    scope: Scope<'_>,
     number: usize,
     node: &RawNode,
     name: &[u8],
@@ -254,8 +303,8 @@ fn named_fault(
     is_over: bool,
 ) -> Option<StaticFault>
     requires some { IsTrue (has_name node.now.form) }
-    requires locals { locals.now ≡ locals_before raw.now.nodes.items number }
-    requires blocks { AreBegun raw.now number blocks.now }
+    requires locals { scope.locals.now ≡ locals_before raw.now.nodes.items number }
+    requires blocks { AreBegun raw.now number scope.blocks.now }
     requires text { name.now ≡ text_at raw.now node.now.name }
     requires answer { meaning.answer ≡ answer_named raw.now number node.now }
     requires name { meaning.name ≡ meaning_of raw.now number name.now }
@@ -266,7 +315,7 @@ fn named_fault(
         token_fault(raw, number, node, meaning.answer),
         fault_if(FaultKind::Limit, is_over),
     );
-    let called = name_fault(raw, locals, blocks, number, node, name, meaning.name);
+    let called = name_fault(raw, scope, number, node, name, meaning.name);
     first_of_two(node.at, token, node.name, called)
 }
 
@@ -315,8 +364,9 @@ pub fn look_up(
         answer: answer_named(raw, names, locals, number, node),
         name: meaning_of(raw, names, locals, number, name),
     };
+    let scope = Scope { locals, blocks };
     unless(
-        named_fault(raw, locals, blocks, number, node, name, meaning, is_over),
+        named_fault(raw, scope, number, node, name, meaning, is_over),
         meaning,
     )
 }

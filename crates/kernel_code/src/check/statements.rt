@@ -28,7 +28,7 @@ fn set_of(named: Option<Named>, e: Expr) -> Stmt
     }
 }
 
-// The statement of a form with one expression and no block.
+// The statement of a form with one expression and no block. Of the forms of the last arm only `write` is one.
 fn statement_with_one(form: RawForm, meaning: Meaning, e: Expr) -> Stmt
     ensures { out-Stmt result ≡ statement_with_one form meaning e }
 {
@@ -40,11 +40,30 @@ fn statement_with_one(form: RawForm, meaning: Meaning, e: Expr) -> Stmt
         }
         RawForm::AddItem => Stmt::Add(number_of(meaning.name), e),
         RawForm::Remove => Stmt::RemoveAt(number_of(meaning.name), e),
-        _ => Stmt::Write(number_of(meaning.name), e),
+        RawForm::Write
+        | RawForm::Number
+        | RawForm::Index
+        | RawForm::Name
+        | RawForm::Element
+        | RawForm::Length
+        | RawForm::Has
+        | RawForm::Count
+        | RawForm::Item
+        | RawForm::Unary
+        | RawForm::Binary
+        | RawForm::SetPlace
+        | RawForm::SetTryAdd
+        | RawForm::AddPair
+        | RawForm::Clear
+        | RawForm::Begin
+        | RawForm::If
+        | RawForm::IfElse
+        | RawForm::For
+        | RawForm::While => { Stmt::Write(number_of(meaning.name), e) }
     }
 }
 
-// The statement of a form with two expressions and no block.
+// The statement of a form with two expressions and no block. Of the forms of the last arm only `add` of a map is one.
 fn statement_with_two(form: RawForm, meaning: Meaning, e: Expr, f: Expr) -> Stmt
     ensures { out-Stmt result ≡ statement_with_two form meaning e f }
 {
@@ -53,11 +72,33 @@ fn statement_with_two(form: RawForm, meaning: Meaning, e: Expr, f: Expr) -> Stmt
         RawForm::SetTryAdd => {
             Stmt::TryAdd(number_of(meaning.answer), number_of(meaning.name), e, f)
         }
-        _ => Stmt::AddPair(number_of(meaning.name), e, f),
+        RawForm::AddPair
+        | RawForm::Number
+        | RawForm::Index
+        | RawForm::Name
+        | RawForm::Element
+        | RawForm::Length
+        | RawForm::Has
+        | RawForm::Count
+        | RawForm::Item
+        | RawForm::Unary
+        | RawForm::Binary
+        | RawForm::Var
+        | RawForm::SetName
+        | RawForm::SetRemove
+        | RawForm::AddItem
+        | RawForm::Remove
+        | RawForm::Clear
+        | RawForm::Write
+        | RawForm::Begin
+        | RawForm::If
+        | RawForm::IfElse
+        | RawForm::For
+        | RawForm::While => { Stmt::AddPair(number_of(meaning.name), e, f) }
     }
 }
 
-// The statement of a node.
+// The statement of a node. Of the forms of the last arm only `clear` is one.
 #[cycle(statement)]
 fn statement(
     alloc: Global,
@@ -116,7 +157,17 @@ fn statement(
             let body = block(alloc, raw, meanings, inner, behind)?;
             Ok(Stmt::While(e.expr, body))
         }
-        _ => Ok(Stmt::Clear(number_of(meaning.name))),
+        RawForm::Clear
+        | RawForm::Number
+        | RawForm::Index
+        | RawForm::Name
+        | RawForm::Element
+        | RawForm::Length
+        | RawForm::Has
+        | RawForm::Count
+        | RawForm::Item
+        | RawForm::Unary
+        | RawForm::Binary => { Ok(Stmt::Clear(number_of(meaning.name))) }
     }
 }
 

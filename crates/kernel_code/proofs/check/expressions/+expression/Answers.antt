@@ -24,14 +24,15 @@ atom-returns-in_ok-both-in-Item-clause-built t c r e here =
     (faultless_at raw _ _ _ r there) known c.in-Item.is
     (c.in_ok-first-in-Item.ensures.built r) (c.in_ok-second-in-Item.ensures.built r) c.number_of.ensures c.in_ok-both-in-Item.ensures.ok e here
 
-pub atom-returns-in_default-form-clause-built : goal.atom-returns-in_default-form-clause-built
-atom-returns-in_default-form-clause-built t c r e here =
+pub atom-returns-in-Number-clause-built : goal.atom-returns-in-Number-clause-built
+atom-returns-in-Number-clause-built t c r e here =
     let raw = c.args.raw.now in
     let node = c.in-Some.node in
     let there = sym c.node_at.ensures.node ∙ c.in-Some.is in
     let known = ap (λ m. m.name) (c.meaning_at-named.ensures _ (meaning_is raw c.args.meanings.now c.args.at node r there)) in
-    atom_leaf raw c.args.at node _ _ there (faultless_at raw _ _ _ r there) known c.in_default-form.not-Element c.in_default-form.not-Has
-    c.in_default-form.not-Count c.in_default-form.not-Unary c.in_default-form.not-Item c.leaf_expression.ensures e here
+    let is = c.in-Number.is in
+    atom_leaf raw c.args.at node _ _ there (faultless_at raw _ _ _ r there) known (λ h. grind (arith, is, h)) (λ h. grind (arith, is, h))
+    (λ h. grind (arith, is, h)) (λ h. grind (arith, is, h)) (λ h. grind (arith, is, h)) c.leaf_expression.ensures e here
 
 pub chain-returns-in_default-clause-built : goal.chain-returns-in_default-clause-built
 chain-returns-in_default-clause-built t c r l e b here built = chain_stop c.args.raw.now c.args.start _ _ c.in_default.ensures.cases b here built

@@ -1,10 +1,10 @@
-use Rattle.std.proofs.Common.{◌≡◌, sym, ap, ◌∙◌, arith}
+use Rattle.std.proofs.Common.{◌≡◌, ◌≤◌, sym, ap, ◌∙◌, arith}
 use Rattle.frame_ast.specs.declared.kernel.Stmt.TheViews.{outs-Clear, outs-Begin, outs-If, outs-For, outs-While}
 use Rattle.frame_ast.specs.declared.kernel.Stmt.TheOpen.{Clear}
 use Rattle.kernel_code.specs.Places.{group_of}
 use Rattle.kernel_code.proofs.Built.Expressions.{faultless_at, meaning_is}
 use Rattle.kernel_code.proofs.Built.Blocks.{partly_start, partly_end, partly_next, partly_missing}
-use Rattle.kernel_code.proofs.Built.Statements.{one_first, two_first, bare_first, begin_first, if_first, if_else_first, for_first, while_first, rest-group}
+use Rattle.kernel_code.proofs.Built.Statements.{one_first, two_first, bare_first, begin_first, if_first, if_else_first, for_first, while_first}
 use Rattle.kernel_code.proofs.check.statements.+statement.Goals as goal
 
 pub block-loop-at-init : goal.block-loop-at-init
@@ -83,11 +83,9 @@ statement-returns-in_ok-body-in-While t c r owner b has here =
     (c.meaning_at-meaning.ensures _ (meaning_is raw _ _ _ r c.requires)) c.requires
     c.in_ok-e-in-While.e.expr _ _ _ (outs-While _ _) c.in-While.is (c.in_ok-e-in-While.ensures.built r) (c.in_ok-body-in-While.ensures r) owner b has here
 
-pub statement-returns-in_default : goal.statement-returns-in_default
-statement-returns-in_default t c r owner b has here =
+pub statement-returns-in-Clear : goal.statement-returns-in-Clear
+statement-returns-in-Clear t c r owner b has here =
     let raw = c.args.raw.now in
-    let d = c.in_default in
-    let group = rest-group c.args.node.form d.not-Var d.not-SetName d.not-SetRemove d.not-AddItem d.not-Remove d.not-Write d.not-SetPlace d.not-SetTryAdd
-    d.not-AddPair d.not-Begin d.not-If d.not-IfElse d.not-For d.not-While in
+    let group : group_of c.args.node.form ≤ 1 = grind (arith, c.in-Clear.is) in
     bare_first raw c.args.at c.args.node _ (faultless_at raw _ _ _ r c.requires) (c.meaning_at-meaning.ensures _ (meaning_is raw _ _ _ r c.requires)) c.requires
-    _ group (outs-Clear _ ∙ ap Clear c.number_of-in_default.ensures) owner b has here
+    _ group (outs-Clear _ ∙ ap Clear c.number_of-in-Clear.ensures) owner b has here
