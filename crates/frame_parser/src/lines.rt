@@ -4,11 +4,18 @@
 //! each of their tokens takes some steps. Here stands what all steps together note. Any other line is taken token by
 //! token.
 
-ghost use Rattle.std.specs.Prelude.{◌≡◌, ◌<◌, ◌≤◌, ◌+◌, ◌^◌, true, false, List, ◌++◌, All, length, map, IfOk, IfSome};
+ghost use Rattle.std.specs.Prelude.{◌≡◌, ◌<◌, ◌≤◌, ◌+◌, ◌^◌, true, false, List, ◌++◌, All, length, map, IfOk};
 ghost use Rattle.frame_parser.specs.Lines.{AreAt, IsLine, events_at, TakesLines};
 ghost use Rattle.frame_parser.specs.Notes.{events_of};
 
-use crate::known_lines::{Line, line_with, longer_line_with};
+use crate::known_lines::{
+    ADD, ADD_NOTES, ADD_PAIR, ADD_PAIR_NOTES, ARRAY, ARRAY_NOTES, CLEAR, CLEAR_NOTES, COMPLETE,
+    COMPLETE_NOTES, COPY, COPY_NOTES, DISPOSE, DISPOSE_NOTES, EMPTY, EMPTY_NOTES, FLUSH,
+    FLUSH_NOTES, FRAME, FRAME_NOTES, LIST, LIST_NOTES, MAP, MAP_NOTES, PRINT, PRINT_NOTES, PUT,
+    PUT_NOTES, REFERENCE, REFERENCE_NOTES, REFERENCE_VALUE, REFERENCE_VALUE_NOTES, REMOVE,
+    REMOVE_NOTES, SET, SET_AT, SET_AT_NOTES, SET_CAPACITY, SET_CAPACITY_NOTES, SET_NOTES, SLICE,
+    SLICE_NOTES, STREAM, STREAM_NOTES, VIEW, VIEW_NOTES,
+};
 use crate::note::Note;
 use frame_grammar::{Action as A, HasKind, TokenKind as K};
 use std::alloc::AllocError;
@@ -50,26 +57,50 @@ pub fn note_at(events: &mut Vec<Note>, notes: &[(A, u32)], place: u32) -> Result
 }
 
 /// Takes this line, if it stands at this place. Answers how many tokens it took.
+// In line where the line is a constant, so that nothing of it is looked up in a table.
 #[inline(always)]
 fn take_if_here<T: HasKind>(
     events: &mut Vec<Note>,
     tokens: &[T],
     place: usize,
-    line: Option<Line>,
+    kinds: &[K],
+    notes: &[(A, u32)],
 ) -> Result<usize, AllocError>
-    requires line { IfSome line (λ line. IsLine line.kinds.now line.notes.now) }
+    requires line { IsLine kinds.now notes.now }
     requires within { place ≤ length tokens.now }
     requires few { length tokens.now < 2 ^ 25 }
     ensures { IfOk result (λ taken. TakesLines (map T.kind_of tokens.now) place (place + taken)
         (events_of events.old.items) (events_of events.new.items)) }
 {
-    match line {
-        Some(line) if are_at(line.kinds, tokens, place) => {
-            note_at(events, line.notes, place as u32)?;
-            Ok(line.kinds.len())
-        }
-        _ => Ok(0),
+    if are_at(kinds, tokens, place) {
+        note_at(events, notes, place as u32)?;
+        Ok(kinds.len())
+    } else {
+        Ok(0)
     }
+}
+
+/// The same of two lines that begin with one token. The longer one is looked for first.
+#[inline(always)]
+fn take_either<T: HasKind>(
+    events: &mut Vec<Note>,
+    tokens: &[T],
+    place: usize,
+    longer: (&[K], &[(A, u32)]),
+    other: (&[K], &[(A, u32)]),
+) -> Result<usize, AllocError>
+    requires longer { IsLine longer.0.now longer.1.now }
+    requires other { IsLine other.0.now other.1.now }
+    requires within { place ≤ length tokens.now }
+    requires few { length tokens.now < 2 ^ 25 }
+    ensures { IfOk result (λ taken. TakesLines (map T.kind_of tokens.now) place (place + taken)
+        (events_of events.old.items) (events_of events.new.items)) }
+{
+    let taken = take_if_here(events, tokens, place, longer.0, longer.1)?;
+    if taken > 0 {
+        return Ok(taken);
+    }
+    take_if_here(events, tokens, place, other.0, other.1)
 }
 
 /// Takes the line at a place, if it is one that is known. Answers how many tokens it took.
@@ -84,12 +115,47 @@ fn take_line<T: HasKind>(
     ensures { IfOk result (λ taken. TakesLines (map T.kind_of tokens.now) place (place + taken)
         (events_of events.old.items) (events_of events.new.items)) }
 {
-    let first = tokens[place].kind();
-    let taken = take_if_here(events, tokens, place, longer_line_with(first))?;
-    if taken > 0 {
-        return Ok(taken);
+    match tokens[place].kind() {
+        K::Array => take_if_here(events, tokens, place, &ARRAY, &ARRAY_NOTES),
+        K::List => take_if_here(events, tokens, place, &LIST, &LIST_NOTES),
+        K::Map => take_if_here(events, tokens, place, &MAP, &MAP_NOTES),
+        K::Reference => take_either(
+            events,
+            tokens,
+            place,
+            (&REFERENCE_VALUE, &REFERENCE_VALUE_NOTES),
+            (&REFERENCE, &REFERENCE_NOTES),
+        ),
+        K::Stream => take_if_here(events, tokens, place, &STREAM, &STREAM_NOTES),
+        K::Slice => take_if_here(events, tokens, place, &SLICE, &SLICE_NOTES),
+        K::View => take_if_here(events, tokens, place, &VIEW, &VIEW_NOTES),
+        K::Copy => take_if_here(events, tokens, place, &COPY, &COPY_NOTES),
+        K::Set => take_either(
+            events,
+            tokens,
+            place,
+            (&SET_AT, &SET_AT_NOTES),
+            (&SET, &SET_NOTES),
+        ),
+        K::Add => take_either(
+            events,
+            tokens,
+            place,
+            (&ADD_PAIR, &ADD_PAIR_NOTES),
+            (&ADD, &ADD_NOTES),
+        ),
+        K::Put => take_if_here(events, tokens, place, &PUT, &PUT_NOTES),
+        K::Remove => take_if_here(events, tokens, place, &REMOVE, &REMOVE_NOTES),
+        K::Clear => take_if_here(events, tokens, place, &CLEAR, &CLEAR_NOTES),
+        K::SetCapacity => take_if_here(events, tokens, place, &SET_CAPACITY, &SET_CAPACITY_NOTES),
+        K::Complete => take_if_here(events, tokens, place, &COMPLETE, &COMPLETE_NOTES),
+        K::Dispose => take_if_here(events, tokens, place, &DISPOSE, &DISPOSE_NOTES),
+        K::Print => take_if_here(events, tokens, place, &PRINT, &PRINT_NOTES),
+        K::Flush => take_if_here(events, tokens, place, &FLUSH, &FLUSH_NOTES),
+        K::Frame => take_if_here(events, tokens, place, &FRAME, &FRAME_NOTES),
+        K::Line => take_if_here(events, tokens, place, &EMPTY, &EMPTY_NOTES),
+        _ => Ok(0),
     }
-    take_if_here(events, tokens, place, line_with(first))
 }
 
 /// Takes the lines from a place on that are known, where items are on top of the stack. Answers the place after them.

@@ -29,8 +29,9 @@ fn number_of(action: Action) -> u32
 
 // TO ADD A STATEMENT: 3, the actions that it adds, in the order of `Action`.
 
-/// The actions in the order of their numbers.
-const ACTIONS: [Action; 104] = [
+/// The actions in the order of their numbers, and after them the first one for each number that is left.
+// Of so many that no number has to be compared with how many there are.
+const ACTIONS: [Action; 128] = [
     Action::StartStatement,
     Action::OpenJob,
     Action::Name,
@@ -135,6 +136,30 @@ const ACTIONS: [Action; 104] = [
     Action::DisposeAutoStatement,
     Action::DisposeStatement,
     Action::DisposeAfterStatement,
+    Action::StartStatement,
+    Action::StartStatement,
+    Action::StartStatement,
+    Action::StartStatement,
+    Action::StartStatement,
+    Action::StartStatement,
+    Action::StartStatement,
+    Action::StartStatement,
+    Action::StartStatement,
+    Action::StartStatement,
+    Action::StartStatement,
+    Action::StartStatement,
+    Action::StartStatement,
+    Action::StartStatement,
+    Action::StartStatement,
+    Action::StartStatement,
+    Action::StartStatement,
+    Action::StartStatement,
+    Action::StartStatement,
+    Action::StartStatement,
+    Action::StartStatement,
+    Action::StartStatement,
+    Action::StartStatement,
+    Action::StartStatement,
 ];
 
 fn actions() -> &'static [Action]
@@ -147,12 +172,10 @@ fn actions() -> &'static [Action]
 #[inline(always)]
 #[tactic(auto, unfolding(crate::specs::Notes::action_of))]
 fn action_of(number: u32) -> Action
+    requires { number < 128 }
     ensures { result ≡ action_of number }
 {
-    match actions().get(number as usize) {
-        Some(action) => *action,
-        None => Action::StartStatement,
-    }
+    actions()[number as usize]
 }
 
 impl Note {

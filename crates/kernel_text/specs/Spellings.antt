@@ -1,5 +1,5 @@
 -- How symbols and reserved words are spelled.
-use Rattle.std.specs.Prelude.{◌==◌, ℕ, Bool, List, [], ◌∷◌, Option, codes, find, slice_index}
+use Rattle.std.specs.Prelude.{◌==◌, ℕ, Bool, List, [], ◌∷◌, Option, codes, find, length, slice_index, ◌&&◌}
 use Rattle.std.specs.Str.{bytes_eq}
 use Rattle.frame_grammar.specs.declared.token_kind.TokenKind.{TokenKind}
 use Rattle.frame_grammar.specs.declared.token_kind.TokenKind.TheVariants.{Name, Number, Text, Line, End, Bad, OpenBrace, CloseBrace, OpenParen, CloseParen, OpenBracket, CloseBracket, Comma, Semicolon, Colon, Assign, Equal, NotEqual, Less, LessEqual, Greater, GreaterEqual, Plus, Minus, Star, Slash, Percent, Not, AndAnd, OrOr, DotDot, Job, Parallel, Ro, Wo, Rw, Int, Array, List as ListWord, Ref, Map, Stream, By, Var, If, Else, For, In, While, Begin, Write, Add, Remove, Clear, TryAdd, Len, Has, Count, At, Index, Column, Reference, Slice, View, Copy, Set, Put, SetCapacity, Schedule, Waive, After, Combine, Complete, Dispose, As, Print, Flush, Repeat, Frame, Temp, TempJob, Persistent, Defer, Auto, When}
@@ -109,6 +109,10 @@ reserved_words =
 -- whether this is the first byte of the kind's spelling
 abbrev pub is_first_of : ℕ → TokenKind → Bool
 is_first_of byte kind = slice_index (spelling_of kind) 0 == byte
+
+-- whether the kind's spelling has so many bytes, and this one first
+abbrev pub is_shaped : ℕ → ℕ → TokenKind → Bool
+is_shaped len first kind = (length (spelling_of kind) == len) && is_first_of first kind
 
 -- the first of these kinds that is spelled so
 abbrev pub spelled : List TokenKind → List ℕ → Option TokenKind

@@ -6,6 +6,7 @@ ghost use Rattle.script_checks.specs.Index.{known_of, hash_of, bucket_of, first_
 
 use frame_ast::name_kind::NameKind;
 use job_base::NoMemory;
+use kernel_text::is_same;
 use std::alloc::Global;
 use std::collections::BTreeMap;
 use std::hash::{FoldHasher, Hasher};
@@ -19,15 +20,13 @@ pub struct Entry<'a> {
     pub kind: NameKind,
 }
 
-// A name as text.
+// A name as text. That its bytes are is proved, so they aren't looked at once more.
 fn text_of(alloc: Global, bytes: &[u8]) -> Result<String, NoMemory>
     requires { IsUtf8 bytes.now }
     ensures { IfOk result (λ text. string_bytes text ≡ bytes.now) }
 {
-    match str::from_utf8(bytes) {
-        Ok(text) => Ok(String::from_str(alloc, text)?),
-        Err(_) => unreachable!(),
-    }
+    let text = unsafe { str::from_utf8_unchecked(bytes) };
+    Ok(String::from_str(alloc, text)?)
 }
 
 // The hash by which a name is found: half of what std's hasher makes of its bytes.
@@ -128,7 +127,7 @@ impl<'a> Names<'a> {
         ensures { result ≡ place_in self.now text.now }
     {
         let first = first_for(&self.firsts, text)?;
-        if self.entries[first as usize].text == text {
+        if is_same(self.entries[first as usize].text, text) {
             return Some(first);
         }
         self.others.get(text).copied()
@@ -205,7 +204,7 @@ impl<'a> Names<'a> {
             }
             Some(first) => {
                 let entry = self.entries[first as usize];
-                if entry.text == text {
+                if is_same(entry.text, text) {
                     return Ok((first, entry.kind));
                 }
                 self.get_or_make(text, kind)

@@ -1,31 +1,36 @@
 -- Looking for a reserved word among those with its first byte is enough, and none has one byte.
 use Rattle.std.proofs.Common.{◌≡◌, ◌≤◌, ℕ, true, false, true≢false, cond, List, [], ◌∷◌, length, get_or, filter, Some, None, ◌∙◌, sym, refl, ap, ⊎_elim, arith}
 use Rattle.std.specs.Prelude.{nat_le}
+use Rattle.std.specs.Cmp.Derive.{both_true}
 use Rattle.std.specs.List.{list_all}
 use Rattle.std.specs.Str.{bytes_eq}
 use Rattle.std.proofs.lemmas.Bool.{cases_Bool, cond-true, cond-false, eq-eqb, and_parts, leb-true}
 use Rattle.std.proofs.lemmas.Slice.Eq.{bytes_eq-Decides}
 use Rattle.frame_grammar.specs.declared.token_kind.TokenKind.{TokenKind}
 use Rattle.frame_grammar.specs.declared.token_kind.TokenKind.TheVariants.{Index}
-use Rattle.kernel_text.specs.Spellings.{spelling_of, spelled, reserved_words, is_first_of}
+use Rattle.kernel_text.specs.Spellings.{spelling_of, spelled, reserved_words, is_shaped}
 
--- a word that is spelled so has the spelling's first byte
-first_of_spelling : (kind : TokenKind) (word : List ℕ) → bytes_eq (spelling_of kind) word ≡ true → is_first_of (get_or word 0 0) kind ≡ true
-first_of_spelling kind word same = eq-eqb _ _ (ap (λ bytes. get_or bytes 0 0) ((bytes_eq-Decides (spelling_of kind) word).0 same))
+-- a word that is spelled so has the spelling's length and first byte
+shape_of_spelling : (kind : TokenKind) (word : List ℕ) → bytes_eq (spelling_of kind) word ≡ true
+    → is_shaped (length word) (get_or word 0 0) kind ≡ true
+shape_of_spelling kind word same =
+    let equal = (bytes_eq-Decides (spelling_of kind) word).0 same in
+    both_true (eq-eqb _ _ (ap length equal)) (eq-eqb _ _ (ap (λ bytes. get_or bytes 0 0) equal))
 
-pub spelled-filter : (kinds : List TokenKind) (word : List ℕ) → spelled (filter (is_first_of (get_or word 0 0)) kinds) word ≡ spelled kinds word
+pub spelled-filter : (kinds : List TokenKind) (word : List ℕ)
+    → spelled (filter (is_shaped (length word) (get_or word 0 0)) kinds) word ≡ spelled kinds word
 spelled-filter [] word = refl
 spelled-filter (kind ∷ kinds) word =
     ⊎_elim
-    (λ first.
-    ap (λ ks. spelled ks word) (cond-true _ _ _ first) ∙ ap (λ o. cond (bytes_eq (spelling_of kind) word) (Some kind) o) (spelled-filter kinds word))
+    (λ shaped.
+    ap (λ ks. spelled ks word) (cond-true _ _ _ shaped) ∙ ap (λ o. cond (bytes_eq (spelling_of kind) word) (Some kind) o) (spelled-filter kinds word))
     (λ other.
     ap (λ ks. spelled ks word) (cond-false _ _ _ other) ∙ spelled-filter kinds word
     ∙ ⊎_elim
-    (λ same. absurd (true≢false (sym (first_of_spelling kind word same) ∙ other)))
+    (λ same. absurd (true≢false (sym (shape_of_spelling kind word same) ∙ other)))
     (λ differs. sym (cond-false _ _ _ differs))
     (cases_Bool (bytes_eq (spelling_of kind) word)))
-    (cases_Bool (is_first_of (get_or word 0 0) kind))
+    (cases_Bool (is_shaped (length word) (get_or word 0 0) kind))
 
 -- texts whose lengths differ are not the same
 differs_in_length : (spelling word : List ℕ) → 2 ≤ length spelling → length word ≡ 1 → bytes_eq spelling word ≡ false

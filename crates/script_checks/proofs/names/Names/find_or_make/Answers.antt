@@ -2,7 +2,7 @@ use Rattle.std.proofs.Common.{arith, rules, ◌≡◌, ◌∙◌, ◌<◌, ◌-�
 use Rattle.std.proofs.lemmas.List.{length-map}
 use Rattle.std.specs.Str.{bytes_eq}
 use Rattle.script_checks.specs.Names.{place_in, kind_in}
-use Rattle.script_checks.specs.Index.{known_of, bucket_of, first_of, first_for}
+use Rattle.script_checks.specs.Index.{known_of, bucket_of, first_of}
 use Rattle.script_checks.proofs.IndexLemmas.{index_first, found_first, named_new}
 use Rattle.script_checks.proofs.PlaceLemmas.{kind_found, kind_missing, known_already, new_place}
 use Rattle.script_checks.proofs.names.Names.find_or_make.Goals as goal
@@ -22,27 +22,27 @@ invariant_of-self-in-None c =
     c.self.invariant room its (subst (λ n. c.bucket_of-bucket.result < n) many c.bucket_of-bucket.ensures.within)
     (ap (first_of firsts) (sym its) ∙ empty))
 
-pub returns-then-eq-clause-place : goal.returns-then-eq-clause-place
-returns-then-eq-clause-place c =
+pub returns-then-is_same-clause-place : goal.returns-then-is_same-clause-place
+returns-then-is_same-clause-place c =
     let firsts = c.self.inside.firsts.items in
     let many : c.len.result ≡ length firsts = search rules in
     let its : c.bucket_of-bucket.result ≡ bucket_of (length firsts) c.args.text.now =
     c.bucket_of-bucket.ensures.bucket ∙ ap (λ n. bucket_of n c.args.text.now) many in
     let used : first_of firsts c.bucket_of-bucket.result ≡ Some c.in-Some.first = search rules in
-    let same : bytes_eq c.index.result.now.text.now c.args.text.now ≡ true = search rules in
-    found_first firsts c.self.inside.others c.self.inside.entries.items c.args.self.now c.args.text.now c.in-Some.first c.index.result.now
-    c.self.view_is c.self.invariant (ap (first_of firsts) (sym its) ∙ used) c.index.ensures same
+    let same : bytes_eq c.index-entry.result.now.text.now c.args.text.now ≡ true = search rules in
+    found_first firsts c.self.inside.others c.self.inside.entries.items c.args.self.now c.args.text.now c.in-Some.first c.index-entry.result.now
+    c.self.view_is c.self.invariant (ap (first_of firsts) (sym its) ∙ used) c.index-entry.ensures same
 
-pub returns-then-eq-clause-kind : goal.returns-then-eq-clause-kind
-returns-then-eq-clause-kind c =
-    let found : kind_in c.args.self.now c.args.text.now ≡ Some c.index.result.now.kind =
-    subst (λ names. kind_in names c.args.text.now ≡ Some c.index.result.now.kind) c.self.view_is
-    (kind_found c.self.inside.entries.items c.args.text.now c.in-Some.first c.index.result.now (rw c.self.view_is (returns-then-eq-clause-place c))
-    c.index.ensures) in
+pub returns-then-is_same-clause-kind : goal.returns-then-is_same-clause-kind
+returns-then-is_same-clause-kind c =
+    let found : kind_in c.args.self.now c.args.text.now ≡ Some c.index-entry.result.now.kind =
+    subst (λ names. kind_in names c.args.text.now ≡ Some c.index-entry.result.now.kind) c.self.view_is
+    (kind_found c.self.inside.entries.items c.args.text.now c.in-Some.first c.index-entry.result.now (rw c.self.view_is (returns-then-is_same-clause-place c))
+    c.index-entry.ensures) in
     sym (ap (λ o. unwrap_or o c.args.kind) found)
 
-pub returns-then-eq-clause-names : goal.returns-then-eq-clause-names
-returns-then-eq-clause-names c = known_already c.args.self.now c.args.text.now c.args.kind c.in-Some.first (returns-then-eq-clause-place c)
+pub returns-then-is_same-clause-names : goal.returns-then-is_same-clause-names
+returns-then-is_same-clause-names c = known_already c.args.self.now c.args.text.now c.args.kind c.in-Some.first (returns-then-is_same-clause-place c)
 
 -- no name is in its bucket, so it is none of them
 pub returns-in_ok-push-in-None-clause-place : goal.returns-in_ok-push-in-None-clause-place

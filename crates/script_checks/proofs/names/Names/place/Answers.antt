@@ -4,8 +4,8 @@ use Rattle.script_checks.specs.Index.{first_for, other_of}
 use Rattle.script_checks.proofs.IndexLemmas.{found_first, found_other}
 use Rattle.script_checks.proofs.names.Names.place.Goals as goal
 
-pub returns-then-eq : goal.returns-then-eq
-returns-then-eq c =
+pub returns-then-is_same : goal.returns-then-is_same
+returns-then-is_same c =
     let found : first_for c.self.inside.firsts.items c.args.text.now ≡ Some c.in_ok-first.first = search rules in
     let same : bytes_eq c.index.result.now.text.now c.args.text.now ≡ true = search rules in
     sym (found_first c.self.inside.firsts.items c.self.inside.others c.self.inside.entries.items c.args.self.now c.args.text.now c.in_ok-first.first

@@ -2,7 +2,6 @@ use Rattle.std.proofs.Common.{◌≡◌, ℕ, List, length, nat_le, true, false,
 use Rattle.kernel_code.specs.declared.check.StaticFault.{StaticFault}
 use Rattle.frame_ast.specs.declared.kernel.FaultKind.TheVariants.{KindMismatch, Limit}
 use Rattle.job_base.specs.declared.limits.TheConstants.{MOST_NAME_BYTES}
-use Rattle.script_text.specs.Sources.{text_at}
 use Rattle.script_checks.specs.Names.{place_in, kind_in, with_name}
 use Rattle.script_checks.specs.Faults.{unless, remake_fault, long_fault}
 use Rattle.script_checks.specs.Spelling.{names_with}
