@@ -4,6 +4,7 @@ pub mod Gives
 pub mod Bounding
 pub mod Placing
 pub mod Lots
+pub mod Sets
 pub mod Rooms
 pub mod Changes
 pub mod Settling

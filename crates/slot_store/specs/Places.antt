@@ -1,5 +1,5 @@
 -- What slots stand for, and which words are live by it.
-use Rattle.std.specs.Prelude.{ℕ, Bool, true, false, ◌&&◌, ◌||◌, if◌then◌else◌, nat_eq, List, [], ◌∷◌, slice_index_or, count_by}
+use Rattle.std.specs.Prelude.{ℕ, suc, Bool, true, false, ◌&&◌, ◌||◌, if◌then◌else◌, nat_eq, List, [], ◌∷◌, slice_index_or, count_by}
 use Rattle.frame_ast.specs.Jobs.{Jobs, nobody}
 use Rattle.job_handle.specs.Sets.{jobs_of}
 use Rattle.slot_store.specs.declared.place.State.{State}
@@ -12,18 +12,23 @@ use Rattle.job_handle.specs.declared.handle.Handle.{Handle}
 use Rattle.slot_store.specs.declared.place.Waiting.{Waiting}
 use Rattle.slot_store.specs.Spaces.{no_span, has_word}
 
--- what a lot says: the jobs that it has count where the range is held
+-- what a lot says with the set of its slot: its jobs count where the range is held
 abbrev pub state_by : Standing → Handle → State
 state_by Unused users = Free
 state_by Used users = Taken
 state_by Waits users = Held users
 
-abbrev pub placed : Lot → Place
-placed x = record { state = state_by x.standing x.users; version = x.version; span = x.span }
+abbrev pub placed : Lot → Handle → Place
+placed x users = record { state = state_by x.standing users; version = x.version; span = x.span }
 
-abbrev pub places_in : List Lot → List Place
-places_in [] = []
-places_in (x ∷ more) = placed x ∷ places_in more
+-- the places of slots that have these lots, and these sets by their numbers
+abbrev pub places_in : List Lot → (ℕ → Handle) → List Place
+places_in [] sets = []
+places_in (x ∷ more) sets = placed x (sets 0) ∷ places_in more (λ s. sets (suc s))
+
+-- the set of a slot: those past the last set have the one without jobs
+abbrev pub set_at : List Handle → Handle → ℕ → Handle
+set_at users none s = slice_index_or users s none
 
 -- a slot that was never taken
 abbrev pub unused : Place

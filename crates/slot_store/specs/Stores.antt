@@ -6,11 +6,15 @@ use Rattle.frame_ast.specs.Jobs.{Book, Jobs, any_job}
 use Rattle.slot_store.specs.declared.place.Place.{Place}
 use Rattle.slot_store.specs.declared.store.SlotStore.{SlotStore}
 use Rattle.slot_store.specs.declared.place.State.TheVariants.{Free, Taken, Held}
-use Rattle.slot_store.specs.Places.{places_in, place_at, some_live, live_len, used_once, is_held, users_of, slot_in}
+use Rattle.slot_store.specs.Places.{places_in, set_at, place_at, some_live, live_len, used_once, is_held, users_of, slot_in}
+
+-- by slot, for whose sake its range is held, where it is
+abbrev pub sets_of : SlotStore → ℕ → Handle
+sets_of store s = set_at store.users.items store.none s
 
 -- the places of all slots
 abbrev pub places_of : SlotStore → List Place
-places_of store = places_in store.lots.items
+places_of store = places_in store.lots.items (sets_of store)
 
 -- what a slot stands for
 abbrev pub place_of : SlotStore → ℕ → Place

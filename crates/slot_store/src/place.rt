@@ -14,7 +14,7 @@ pub enum State {
 }
 
 /// A slot's state, its version, and the range of words that it has, or had before it was free. Contracts speak of
-/// places. What is kept is a `Lot`, which says the same.
+/// places. What is kept is a `Lot` and a set of jobs, which say the same.
 #[derive(Clone, Copy)]
 pub struct Place {
     pub(crate) state: State,

@@ -1,10 +1,12 @@
 // Room in the lists of a store.
-ghost use Rattle.std.specs.Prelude.{◌≡◌, ◌+◌, ◌≤◌, OnOk, vec_len, vec_capacity};
+ghost use Rattle.std.specs.Prelude.{◌≡◌, ℕ, ◌+◌, ◌<◌, ◌≤◌, OnOk, vec_len, vec_capacity};
 ghost use Rattle.slot_store.specs.Kept.{IsGrown};
+ghost use Rattle.slot_store.specs.Places.{set_at};
 
 use crate::place::Waiting;
 use crate::space::FreeSpace;
 use job_base::NoMemory;
+use job_handle::Handle;
 
 /// Makes room for so many ranges and slots to come back, and for so many slots to be held.
 pub(crate) fn reserve_all(
@@ -25,4 +27,19 @@ pub(crate) fn reserve_all(
     slots.reserve(most)?;
     held.reserve(most)?;
     Ok(())
+}
+
+/// Makes sets up to that of a slot, in room that there is. What sets slots have stays the same.
+pub(crate) fn add_sets(users: &mut Vec<Handle>, none: &Handle, at: usize)
+    requires { at < vec_capacity users.old }
+    ensures there { at < vec_len users.new }
+    ensures same { (s : ℕ) → set_at users.new.items none.now s ≡ set_at users.old.items none.now s }
+    ensures room { vec_capacity users.old ≤ vec_capacity users.new }
+{
+    while users.len() <= at {
+        match users.push(*none) {
+            Ok(()) => {}
+            Err(_) => unreachable!(),
+        }
+    }
 }

@@ -1,12 +1,12 @@
 // The store: slots, the ranges of words that they have, and those that are held until jobs are completed.
 ghost use Rattle.std.specs.Prelude.{◌≡◌, ℕ, ◌+◌, ◌<◌, ◌≤◌, ◌^◌, ◌&&◌, ◌↔◌, max, nat_eq, true, false, if◌then◌else◌, IfOk, OnOk, OnErr, IsTrue, IfSome, IfNone, vec_len, vec_capacity};
 ghost use Rattle.slot_store.specs.Kept.{AreKept, AreWaiting, HaveRoom};
-ghost use Rattle.slot_store.specs.Places.{places_in};
+ghost use Rattle.slot_store.specs.Places.{places_in, set_at};
 
 use crate::lot::{Lot, Standing};
 use crate::pending::pending_of;
 use crate::place::Waiting;
-use crate::room::reserve_all;
+use crate::room::{add_sets, reserve_all};
 use crate::slot::{Slot, StoreFault, Taken, Version};
 use crate::space::FreeSpace;
 use job_base::limits::MOST_LIVE_WORDS;
@@ -19,6 +19,11 @@ use std::alloc::Global;
 pub struct SlotStore {
     // By slot. Slots beyond the last were never taken.
     lots: Vec<Lot>,
+    // By slot, for whose sake its range is held. It says nothing where the range isn't. A set has 528 bytes, so none is
+    // made for slots past the last that was held.
+    users: Vec<Handle>,
+    // The set without jobs, which these have.
+    none: Handle,
     words: FreeSpace,
     slots: FreeSpace,
     // Each of the first `waiting` waits for a job that isn't in `completed`. The others are to be looked at.
@@ -28,14 +33,16 @@ pub struct SlotStore {
     completed: Handle,
     live_words: u32,
     peak: u32,
-    ghost kept: { AreKept (places_in lots.items) words slots held.items live_words peak },
-    ghost room: { HaveRoom (places_in lots.items) words slots held },
-    ghost waits: { AreWaiting (places_in lots.items) held.items waiting completed },
+    ghost kept: { AreKept (places_in lots.items (set_at users.items none)) words slots held.items live_words
+        peak },
+    ghost room: { HaveRoom (places_in lots.items (set_at users.items none)) words slots held },
+    ghost waits: { AreWaiting (places_in lots.items (set_at users.items none)) held.items waiting completed },
+    ghost sets: { vec_len lots ≤ vec_capacity users },
 }
 
 impl SlotStore {
     ghost use Rattle.slot_store.specs.Places.{in_use, is_held, is_taken, unused, users_of};
-    ghost use Rattle.slot_store.specs.Stores.{IsReady, IsSame, freed, given, held, is_live_word, live_words_of, live_words_settled, peak_of, place_of, settled, slot_at, slots_in_use, slots_in_use_settled, taken};
+    ghost use Rattle.slot_store.specs.Stores.{IsReady, IsSame, freed, given, held, is_live_word, live_words_of, live_words_settled, peak_of, place_of, places_of, settled, slot_at, slots_in_use, slots_in_use_settled, taken};
     ghost use Rattle.frame_ast.specs.Ranges.{IsFirstFit};
     ghost use Rattle.frame_ast.specs.Jobs.{Book};
     ghost use Rattle.frame_ast.specs.Laws.{AreUpTo};
@@ -51,6 +58,8 @@ impl SlotStore {
     {
         Ok(SlotStore {
             lots: Vec::new(alloc),
+            users: Vec::new(alloc),
+            none: Handle::empty(),
             words: FreeSpace::new(alloc)?,
             slots: FreeSpace::new(alloc)?,
             held: Vec::new(alloc),
@@ -148,16 +157,8 @@ impl SlotStore {
         ensures used { slots_in_use self.new ≡ slots_in_use self.old }
         ensures peak { peak_of self.new ≡ peak_of self.old }
     {
-        let waiting = Waiting {
-            slot: slot.0,
-            job: 0,
-        };
-        match self.held.push(waiting) {
-            Ok(()) => {}
-            Err(_) => unreachable!(),
-        }
-        let lot = &mut self.lots[slot.0 as usize];
-        lot.set_held(users);
+        self.have_set(slot);
+        self.hold_ready(slot, users);
     }
 
     /// Each held range whose users are all completed comes back with its slot, and no other. It looks at those that
@@ -251,14 +252,50 @@ impl SlotStore {
         self.add_lot()
     }
 
-    // Inlined, a lot would be cleared at each take.
+    // With the lot comes the room for its set. Inlined, a lot would be cleared at each take.
     #[inline(never)]
     fn add_lot(&mut self) -> Result<(), NoMemory>
         ensures same { IsSame self.old self.new }
         ensures known { OnOk result (self.new.slots.top < vec_len self.new.lots) }
     {
+        let most = self.lots.len() + 1;
+        self.users.reserve(most.saturating_sub(self.users.len()))?;
         self.lots.push(Lot::unused())?;
         Ok(())
+    }
+
+    /// Makes a set for a slot that is taken, where it has none.
+    fn have_set(&mut self, slot: Slot)
+        requires taken { is_taken (place_of self.old slot.0).state ≡ true }
+        ensures same { IsSame self.old self.new }
+        ensures there { slot.0 < vec_len self.new.users }
+    {
+        let at = slot.0 as usize;
+        if at < self.users.len() {
+            return;
+        }
+        self.add_sets(at);
+    }
+
+    // Inlined, a set would be cleared at each hold.
+    #[inline(never)]
+    fn add_sets(&mut self, at: usize)
+        requires { at < vec_len self.old.lots }
+        ensures same { IsSame self.old self.new }
+        ensures there { at < vec_len self.new.users }
+    {
+        add_sets(&mut self.users, &self.none, at);
+    }
+
+    // The set of a slot.
+    fn users_at(&self, at: usize) -> &Handle
+        ensures { result.now ≡ set_at self.now.users.items self.now.none at }
+    {
+        if at < self.users.len() {
+            &self.users[at]
+        } else {
+            &self.none
+        }
     }
 
     /// `take`, once there is room.
@@ -292,6 +329,31 @@ impl SlotStore {
             version: Version(version),
             span,
         }
+    }
+
+    /// `hold`, once the slot has a set.
+    fn hold_ready(&mut self, slot: Slot, users: &Handle)
+        requires there { slot.0 < vec_len self.old.users }
+        requires taken { is_taken (place_of self.old slot.0).state ≡ true }
+        requires version { (place_of self.old slot.0).version < 4294967295 }
+        ensures places { (s : ℕ) → place_of self.new s ≡
+            (if nat_eq s slot.0 then held (place_of self.old slot.0) users.now else place_of self.old s) }
+        ensures live { live_words_of self.new ≡ live_words_of self.old }
+        ensures used { slots_in_use self.new ≡ slots_in_use self.old }
+        ensures peak { peak_of self.new ≡ peak_of self.old }
+    {
+        let at = slot.0 as usize;
+        let waiting = Waiting {
+            slot: slot.0,
+            job: 0,
+        };
+        match self.held.push(waiting) {
+            Ok(()) => {}
+            Err(_) => unreachable!(),
+        }
+        self.users[at] = *users;
+        let lot = &mut self.lots[at];
+        lot.set_held();
     }
 
     /// `regrow`, once there is room.
@@ -333,7 +395,7 @@ impl SlotStore {
 
     /// How many of the first held slots needn't be looked at: where a job was completed since the last call, none.
     fn still_waiting(&self, completed: &Handle) -> usize
-        ensures { AreWaiting (places_in self.now.lots.items) self.now.held.items result completed.now }
+        ensures { AreWaiting (places_of self.now) self.now.held.items result completed.now }
     {
         match completed.latest_outside(&self.completed) {
             Some(_) => 0,
@@ -375,8 +437,8 @@ impl SlotStore {
         if held.job > 0 && !self.completed.has(noted) {
             return Some(noted);
         }
-        let lot = &self.lots[held.slot as usize];
-        pending_of(&lot.users, &self.completed, held.job)
+        let users = self.users_at(held.slot as usize);
+        pending_of(users, &self.completed, held.job)
     }
 
     /// The slot waits for a job.

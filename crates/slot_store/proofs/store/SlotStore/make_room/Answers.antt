@@ -1,5 +1,5 @@
 use Rattle.std.proofs.Common.{sym, subst, arith}
-use Rattle.slot_store.specs.Places.{places_in}
+use Rattle.slot_store.specs.Stores.{places_of}
 use Rattle.slot_store.specs.Kept.{AreWaiting}
 use Rattle.slot_store.proofs.Rooms.{kept_moved}
 use Rattle.slot_store.proofs.store.SlotStore.make_room.Goals as goal
@@ -12,9 +12,10 @@ invariant_of-self c =
     let h = c.reserve_all.ensures.held in
     let r = s.room in
     record {
-      kept = kept_moved (places_in s.lots.items) s.words s.slots c.reserve_all.new.words c.reserve_all.new.slots s.held.items c.reserve_all.new.held.items
+      kept = kept_moved (places_of s) s.words s.slots c.reserve_all.new.words c.reserve_all.new.slots s.held.items c.reserve_all.new.held.items
           s.live_words
           s.peak s.kept w.holes w.top n.holes n.top h.0;
       room = record { words = omega arith; slots = omega arith; held = omega arith };
-      waits = subst (λ xs. AreWaiting (places_in s.lots.items) xs s.waiting s.completed) (sym h.0) s.waits;
+      waits = subst (λ xs. AreWaiting (places_of s) xs s.waiting s.completed) (sym h.0) s.waits;
+      sets = s.sets;
     }

@@ -15,6 +15,7 @@ invariant_of-self c =
         noted = w.noted;
         pending = λ k lt. (λ i. c.set_to.ensures i (job_in s.held.items k)) ∙ w.pending k lt;
       };
+      sets = s.sets;
     }
 
 pub returns-clause-completed : goal.returns-clause-completed

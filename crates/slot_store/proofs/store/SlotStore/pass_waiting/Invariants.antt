@@ -1,11 +1,11 @@
 use Rattle.std.proofs.Common.{◌-◌, ◌≤◌, vec_len}
+use Rattle.slot_store.specs.Stores.{places_of}
 use Rattle.slot_store.specs.Kept.{AreWaiting}
-use Rattle.slot_store.specs.Places.{places_in}
 use Rattle.slot_store.proofs.store.SlotStore.pass_waiting.Given as goal
 
 abbrev pub invariant-loop-passed : goal.invariant-loop-passed
 invariant-loop-passed l = record {
-  waits : AreWaiting (places_in l.fn.self.lots.items) l.fn.self.held.items l.passed l.fn.self.completed;
+  waits : AreWaiting (places_of l.fn.self) l.fn.self.held.items l.passed l.fn.self.completed;
   more : l.fn.self.waiting ≤ l.passed;
 }
 

@@ -1,8 +1,8 @@
-use Rattle.slot_store.specs.Places.{places_in}
+use Rattle.slot_store.specs.Stores.{places_of}
 use Rattle.slot_store.proofs.Placing.{fit_same}
 use Rattle.slot_store.proofs.store.SlotStore.take.Goals as goal
 
 pub returns-in-Ok-clause-fit : goal.returns-in-Ok-clause-fit
-returns-in-Ok-clause-fit c = fit_same (places_in c.args.self.now.lots.items) (places_in c.make_room.new.self.lots.items)
+returns-in-Ok-clause-fit c = fit_same (places_of c.args.self.now) (places_of c.make_room.new.self)
     c.args.len c.take_ready.result.span.start
     c.make_room.ensures.same.places c.take_ready.ensures.fit

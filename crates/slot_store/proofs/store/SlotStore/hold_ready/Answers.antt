@@ -2,26 +2,27 @@ use Rattle.std.proofs.Common.{◌≡◌, refl, subst, sym, arith, set, ◌<◌, 
 use Rattle.std.proofs.lemmas.Bool.{cond-true}
 use Rattle.slot_store.specs.declared.place.Place.{Place}
 use Rattle.slot_store.specs.Kept.{AreKept, AreWaiting}
-use Rattle.slot_store.specs.Stores.{held}
-use Rattle.slot_store.specs.Places.{in_use, is_taken, places_in, place_at, used_once, taken_once, held_once, times}
-use Rattle.slot_store.proofs.Lots.{in_lots, lots_long, lot_is, lot_changed, changed_at, changed_sum}
+use Rattle.slot_store.specs.Stores.{held, places_of, sets_of}
+use Rattle.slot_store.specs.Places.{in_use, is_taken, places_in, set_at, place_at, used_once, taken_once, held_once, times}
+use Rattle.slot_store.proofs.Lots.{in_lots, lots_long, lot_is, changed_at, changed_sum}
+use Rattle.slot_store.proofs.Sets.{lot_held}
 use Rattle.slot_store.proofs.Rooms.{in_list, used_if_taken, not_held_if_taken}
 use Rattle.slot_store.proofs.Changes.{stays, listed}
 use Rattle.slot_store.proofs.Waits.{waits_set, waits_pushed}
-use Rattle.slot_store.proofs.store.SlotStore.hold.Goals as goal
+use Rattle.slot_store.proofs.store.SlotStore.hold_ready.Goals as goal
 
 pub invariant_of-self : goal.invariant_of-self
 invariant_of-self c =
     let z = c.args.self.now in
-    let ps = places_in z.lots.items in
+    let ps = places_of z in
     let s = c.args.slot.0 in
     let used = used_if_taken (place_at ps s).state c.requires.taken in
     let known = in_list ps s used in
-    let long = lots_long z.lots.items in
+    let long = lots_long z.lots.items (sets_of z) in
     let p : Place = held (place_at ps s) c.args.users.now in
-    let x = c.index_mut-lot.result.now in
-    let e = lot_changed z.lots.items s x c.set_held.new.self (λ q. held q c.args.users.now) (omega arith) c.index_mut-lot.ensures.value c.set_held.ensures in
-    let qs = places_in (set z.lots.items s c.set_held.new.self) in
+    let e = lot_held z.lots.items z.users.items z.none s c.index_mut-lot.result.now c.set_held.new.self c.args.users.now (omega arith) (omega arith)
+    c.index_mut-lot.ensures.value c.set_held.ensures in
+    let qs = places_in (set z.lots.items s c.set_held.new.self) (set_at (set z.users.items s c.args.users.now) z.none) in
     let a = changed_sum used_once ps qs s p known e in
     let a1 : used_once (place_at ps s) ≡ 1 = cond-true (in_use (place_at ps s).state) 1 0 used in
     let a2 : used_once p ≡ 1 = refl in
@@ -41,57 +42,66 @@ invariant_of-self c =
           (subst (λ xs. AreWaiting (set ps s p) xs z.waiting z.completed) (sym c.in-Ok.ensures.items)
           (waits_pushed (set ps s p) z.held.items z.waiting z.completed s
           (waits_set ps z.held.items z.waiting z.completed s p (not_held_if_taken (place_at ps s).state c.requires.taken) z.waits)));
+      sets = z.sets;
     }
 
 pub index_mut-lot-requires : goal.index_mut-lot-requires
 index_mut-lot-requires c =
     let z = c.args.self.now in
     let s = c.args.slot.0 in
-    let used = used_if_taken (place_at (places_in z.lots.items) s).state c.requires.taken in
-    let known = in_lots z.lots.items s used in
+    let used = used_if_taken (place_at (places_of z) s).state c.requires.taken in
+    let known = in_lots z.lots.items (sets_of z) s used in
     let size = z.lots.ok.0 in
+    let sets = z.users.ok.0 in
+    let there = c.requires.there in
     omega arith
 
 pub set_held-requires : goal.set_held-requires
 set_held-requires c =
     let z = c.args.self.now in
     let s = c.args.slot.0 in
-    let used = used_if_taken (place_at (places_in z.lots.items) s).state c.requires.taken in
-    let known = in_lots z.lots.items s used in
+    let used = used_if_taken (place_at (places_of z) s).state c.requires.taken in
+    let known = in_lots z.lots.items (sets_of z) s used in
     let size = z.lots.ok.0 in
+    let sets = z.users.ok.0 in
+    let there = c.requires.there in
     subst (λ (p : Place). p.version < 4294967295)
-    (sym (lot_is z.lots.items s c.index_mut-lot.result.now known c.index_mut-lot.ensures.value)) c.requires.version
+    (sym (lot_is z.lots.items (sets_of z) s c.index_mut-lot.result.now known c.index_mut-lot.ensures.value)) c.requires.version
 
 pub returns-clause-places : goal.returns-clause-places
 returns-clause-places c =
     let z = c.args.self.now in
     let s = c.args.slot.0 in
-    let used = used_if_taken (place_at (places_in z.lots.items) s).state c.requires.taken in
-    let known = in_lots z.lots.items s used in
+    let used = used_if_taken (place_at (places_of z) s).state c.requires.taken in
+    let known = in_lots z.lots.items (sets_of z) s used in
     let size = z.lots.ok.0 in
-    let ps = places_in z.lots.items in
-    let qs = places_in (set z.lots.items s c.set_held.new.self) in
-    let long = lots_long z.lots.items in
+    let sets = z.users.ok.0 in
+    let there = c.requires.there in
+    let ps = places_of z in
+    let qs = places_in (set z.lots.items s c.set_held.new.self) (set_at (set z.users.items s c.args.users.now) z.none) in
+    let long = lots_long z.lots.items (sets_of z) in
     let in_ps : s < length ps = omega arith in
     let p : Place = held (place_at ps s) c.args.users.now in
-    let e = lot_changed z.lots.items s c.index_mut-lot.result.now c.set_held.new.self (λ q. held q c.args.users.now)
-    known c.index_mut-lot.ensures.value c.set_held.ensures in
+    let e = lot_held z.lots.items z.users.items z.none s c.index_mut-lot.result.now c.set_held.new.self c.args.users.now known (omega arith)
+    c.index_mut-lot.ensures.value c.set_held.ensures in
     changed_at ps qs s p in_ps e
 
 pub returns-clause-used : goal.returns-clause-used
 returns-clause-used c =
     let z = c.args.self.now in
     let s = c.args.slot.0 in
-    let used = used_if_taken (place_at (places_in z.lots.items) s).state c.requires.taken in
-    let known = in_lots z.lots.items s used in
+    let used = used_if_taken (place_at (places_of z) s).state c.requires.taken in
+    let known = in_lots z.lots.items (sets_of z) s used in
     let size = z.lots.ok.0 in
-    let ps = places_in z.lots.items in
-    let qs = places_in (set z.lots.items s c.set_held.new.self) in
-    let long = lots_long z.lots.items in
+    let sets = z.users.ok.0 in
+    let there = c.requires.there in
+    let ps = places_of z in
+    let qs = places_in (set z.lots.items s c.set_held.new.self) (set_at (set z.users.items s c.args.users.now) z.none) in
+    let long = lots_long z.lots.items (sets_of z) in
     let in_ps : s < length ps = omega arith in
     let p : Place = held (place_at ps s) c.args.users.now in
-    let e = lot_changed z.lots.items s c.index_mut-lot.result.now c.set_held.new.self (λ q. held q c.args.users.now)
-    known c.index_mut-lot.ensures.value c.set_held.ensures in
+    let e = lot_held z.lots.items z.users.items z.none s c.index_mut-lot.result.now c.set_held.new.self c.args.users.now known (omega arith)
+    c.index_mut-lot.ensures.value c.set_held.ensures in
     let a = changed_sum used_once ps qs s p in_ps e in
     let a1 : used_once (place_at ps s) ≡ 1 = cond-true (in_use (place_at ps s).state) 1 0 used in
     let a2 : used_once p ≡ 1 = refl in
