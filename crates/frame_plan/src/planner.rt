@@ -9,10 +9,11 @@ ghost use Rattle.plan_statements.specs.Tables.{columns_of};
 
 use crate::answers::answer;
 use frame_ast::script::{Order, Script, Statement};
+use frame_core::Op;
 use job_base::NoMemory;
 use job_handle::JobBook;
 use plan_schedules::Gathered;
-use plan_state::{Draft, PlanFault, Planner, Value, World};
+use plan_state::{Container, Draft, PlanFault, Planner, Value, World};
 use safety_handle::SafetyBook;
 use slot_store::SlotStore;
 use std::alloc::Global;
@@ -22,7 +23,7 @@ use table_in::Table;
 pub(crate) fn at_start(alloc: Global, script: &Script) -> Result<Planner, NoMemory>
     ensures { IfOk result (λ p. (table : Columns) → HasBegun script.now table p) }
 {
-    let world = World {
+    let mut world = World {
         values: dead_values(alloc, script.names.len())?,
         handles: Vec::new(alloc),
         containers: Vec::new(alloc),
@@ -40,7 +41,25 @@ pub(crate) fn at_start(alloc: Global, script: &Script) -> Result<Planner, NoMemo
     let mut draft = Draft::none(alloc);
     draft.copies_of = no_copies(alloc, script.kernels.len())?;
     draft.guards_of = no_copies(alloc, script.kernels.len())?;
+    make_room(&mut world.containers, &mut draft.ops, script)?;
     Ok(Planner { world, draft })
+}
+
+/// Room for what the statements of a script without kernels add. No job ends a segment there, so both lists may become
+/// as long as the script, and one without room is moved each time that it grows.
+fn make_room(
+    containers: &mut Vec<Container>,
+    ops: &mut Vec<Op>,
+    script: &Script,
+) -> Result<(), NoMemory>
+    ensures containers { containers.new.items ≡ containers.old.items }
+    ensures ops { ops.new.items ≡ ops.old.items }
+{
+    if script.kernels.is_empty() {
+        containers.reserve(script.statements.len())?;
+        ops.reserve(script.statements.len())?;
+    }
+    Ok(())
 }
 
 /// Goes on from a place among the statements to the next `when` that acts, or to the end, and answers where it is.

@@ -13,7 +13,7 @@ returns c table =
     begun_new c.args.script.now table _ (record {
       values = c.in_ok-dead_values.ensures ∙ ap (λ n. replicate n Dead) names;
       handles = c.new.ensures.items;
-      containers = c.new-2.ensures.items;
+      containers = c.in_ok-make_room.ensures.containers ∙ c.new-2.ensures.items;
       temps = c.new-3.ensures.items;
       tempjobs = c.new-4.ensures.items;
       overdue = refl;
@@ -34,7 +34,7 @@ returns c table =
       segments = c.none-draft.ensures.segments;
       plan_jobs = c.none-draft.ensures.jobs;
       waits = c.none-draft.ensures.waits;
-      ops = c.none-draft.ensures.ops;
+      ops = c.in_ok-make_room.ensures.ops ∙ c.none-draft.ensures.ops;
       pieces = c.none-draft.ensures.pieces;
       first = c.none-draft.ensures.first;
     })
