@@ -3,6 +3,7 @@ use Rattle.std.proofs.Common.{refl, ap, ap₂, ◌≡◌, true, false, Option, S
 use Rattle.std.specs.Option.{unwrap_or, is_some}
 use Rattle.std.specs.Char.{is_ascii_digit, digit_value}
 use Rattle.std.specs.List.{list_all, list_any}
+use Rattle.std.proofs.lemmas.Bool.Decides.{nat_tests}
 use Rattle.std.proofs.lemmas.Bool.{and_parts, and_from, not-true, not_from_false, or_from, eqb-true, ne_eqb, leb-true}
 use Rattle.std.proofs.lemmas.List.{drop_more, map-append}
 use Rattle.std.proofs.lemmas.List.Folds.{list_all-append, list_any-append}
@@ -101,6 +102,14 @@ few_digits text from number at h lt =
     let count = h.count in
     let small : magnitude h.digits < 10 ^ 17 = digits_value_short own h.digits 17 h.all (omega (arith, count)) in
     omega (arith, small, h.value)
+
+-- so small a number is one without a sign
+pub small_number : (n : ℕ) → n < 2 ^ 63 → Some (pos n) ≡ number_by false n
+small_number n h = grind (arith, nat_tests)
+
+-- no space
+pub no_spaces : (text : Text) (from : ℕ) → from ≤ length text → SpacesAt text from from
+no_spaces text from within = record { spaces = []; split = refl; all = refl; ahead = omega arith; within = within }
 
 -- one more space
 pub space_more : (text : Text) (from at : ℕ) → SpacesAt text from at → at < length text → get_or text at 0 ≡ 32 → SpacesAt text from (at + 1)

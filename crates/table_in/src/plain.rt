@@ -1,5 +1,5 @@
 // Numbers are read where they stand in the text, with no copy of their field.
-ghost use Rattle.std.specs.Prelude.{◌≡◌, ◌≤◌, ◌<◌, ◌↔◌, IsTrue, IfSome, FitsSigned, length, slice_index};
+ghost use Rattle.std.specs.Prelude.{◌≡◌, ◌≤◌, ◌<◌, ◌^◌, ◌↔◌, IsTrue, IfSome, FitsSigned, length, slice_index};
 ghost use Rattle.std.specs.Int.{w64};
 ghost use Rattle.table_in.specs.Plain.{is_line_end, SpacesAt, DigitsAt, NumberAt, number_by};
 
@@ -40,36 +40,42 @@ fn skip_spaces_at(text: &[u8], from: usize) -> usize
     end
 }
 
-// As many digits always fit, and need no look at the number so far.
+// Fewer digits always fit, and need no look at the number so far.
 const MOST_SURE_DIGITS: usize = 18;
 
+// The digits of a number, where they are few and the text is long enough for a loop whose length is known: it is
+// unrolled, and has no test but that of the digit.
 #[inline(always)]
-fn read_first_digits(text: &[u8], from: usize) -> Digits
+fn read_few_digits(text: &[u8], from: usize) -> Option<Digits>
     requires { from ≤ length text.now }
-    ensures { DigitsAt text.now from result.magnitude result.end }
+    ensures digits { IfSome result (λ d. DigitsAt text.now from d.magnitude d.end) }
+    ensures small { IfSome result (λ d. d.magnitude < 2 ^ 63) }
 {
-    let most = if text.len() - from > MOST_SURE_DIGITS {
-        from + MOST_SURE_DIGITS
-    } else {
-        text.len()
-    };
-    let mut magnitude: u64 = 0;
-    let mut end = from;
-    while end < most && text[end].is_ascii_digit() {
-        magnitude = magnitude * 10 + (text[end] - b'0') as u64;
-        end += 1;
+    if text.len() - from < MOST_SURE_DIGITS {
+        return None;
     }
-    Digits { magnitude, end }
+    let mut magnitude: u64 = 0;
+    for k in 0..MOST_SURE_DIGITS {
+        let byte = text[from + k];
+        if !byte.is_ascii_digit() {
+            return Some(Digits {
+                magnitude,
+                end: from + k,
+            });
+        }
+        magnitude = magnitude * 10 + (byte - b'0') as u64;
+    }
+    None
 }
 
 // It stops before a digit, where the number would be too large: then no field ends there.
 #[inline(never)]
-fn read_more_digits(text: &[u8], from: usize, first: Digits) -> Digits
-    requires { DigitsAt text.now from first.magnitude first.end }
+fn read_more_digits(text: &[u8], from: usize) -> Digits
+    requires { from ≤ length text.now }
     ensures { DigitsAt text.now from result.magnitude result.end }
 {
-    let mut magnitude = first.magnitude;
-    let mut end = first.end;
+    let mut magnitude: u64 = 0;
+    let mut end = from;
     while end < text.len() && text[end].is_ascii_digit() && magnitude <= MOST_BEFORE_DIGIT {
         magnitude = magnitude * 10 + (text[end] - b'0') as u64;
         end += 1;
@@ -82,11 +88,9 @@ fn read_digits(text: &[u8], from: usize) -> Digits
     requires { from ≤ length text.now }
     ensures { DigitsAt text.now from result.magnitude result.end }
 {
-    let first = read_first_digits(text, from);
-    if first.end - from < MOST_SURE_DIGITS {
-        first
-    } else {
-        read_more_digits(text, from, first)
+    match read_few_digits(text, from) {
+        Some(digits) => digits,
+        None => read_more_digits(text, from),
     }
 }
 
@@ -112,9 +116,9 @@ fn is_at(text: &[u8], place: usize, byte: u8) -> bool
     place < text.len() && text[place] == byte
 }
 
-/// The number that stands from a place on, with the spaces round it.
-#[inline(always)]
-pub fn read_number(text: &[u8], from: usize) -> Option<Found>
+// A number with a `-` before it or spaces round it, one of many digits, or one near the text's end.
+#[inline(never)]
+fn read_any_number(text: &[u8], from: usize) -> Option<Found>
     requires { from ≤ length text.now }
     ensures number { IfSome result (λ f. NumberAt text.now from f.value f.end) }
     ensures fits { IfSome result (λ f. FitsSigned w64 f.value) }
@@ -131,4 +135,22 @@ pub fn read_number(text: &[u8], from: usize) -> Option<Found>
         Some(value) => Some(Found { value, end }),
         None => None,
     }
+}
+
+/// The number that stands from a place on, with the spaces round it. Mostly it is a few digits alone.
+#[inline(always)]
+pub fn read_number(text: &[u8], from: usize) -> Option<Found>
+    requires { from ≤ length text.now }
+    ensures number { IfSome result (λ f. NumberAt text.now from f.value f.end) }
+    ensures fits { IfSome result (λ f. FitsSigned w64 f.value) }
+{
+    if let Some(digits) = read_few_digits(text, from) {
+        if digits.end > from && !is_at(text, digits.end, b' ') {
+            return Some(Found {
+                value: digits.magnitude as i64,
+                end: digits.end,
+            });
+        }
+    }
+    read_any_number(text, from)
 }

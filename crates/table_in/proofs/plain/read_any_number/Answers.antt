@@ -1,8 +1,8 @@
 use Rattle.std.proofs.Common.{◌≡◌, ◌≤◌, ◌++◌, sym, subst, inl, inr, drop, to_z-of_z}
 use Rattle.table_in.specs.Plain.{NumberAt}
 use Rattle.table_in.proofs.FieldLemmas.{sign, sign_at, number_at}
-use Rattle.table_in.proofs.plain.read_number.Goals as goal
-use Rattle.table_in.proofs.plain.read_number.Goals.{then-is_negative, else-is_negative}
+use Rattle.table_in.proofs.plain.read_any_number.Goals as goal
+use Rattle.table_in.proofs.plain.read_any_number.Goals.{then-is_negative, else-is_negative}
 
 pub returns-in-Some-clause-number : goal.returns-in-Some-clause-number
 returns-in-Some-clause-number c =
