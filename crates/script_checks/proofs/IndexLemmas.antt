@@ -1,15 +1,11 @@
--- A name that is added to those known, and the table and the tree that find their places.
+-- A name that is added to those known, and the table and the map that find their places.
 use Rattle.std.proofs.Common.{◌≡◌, ℕ, ◌+◌, ◌-◌, ◌<◌, ◌^◌, zero, suc, Bool, true, false, cond, List, [], ◌∷◌, ◌++◌, length, map, set, ◌==◌, inl, inr, Option, Some, None, unwrap_or, get_or, is_some, refl, sym, ◌∙◌, ap, subst, arith, length-append}
 use Rattle.std.specs.List.{slice_get}
 use Rattle.std.specs.Str.{bytes_eq}
-use Rattle.std.specs.Ordering.{nat_cmp}
-use Rattle.std.specs.Cmp.Lexicographic.{slice_cmp}
-use Rattle.std.specs.BTreeMap.{BTreeMap, UpdatesBy}
-use Rattle.std.specs.Borrow.{Bor}
 use Rattle.std.proofs.lemmas.Slice.Eq.{bytes_eq-Decides}
 use Rattle.std.proofs.lemmas.Bool.{cases_eq, eqb-true, eq-eqb, ne_eqb}
 use Rattle.std.proofs.lemmas.List.{length-map, map-append, length-set, get_or-set_same, get_or-set_other}
-use Rattle.std.proofs.lemmas.Map.Text.{btree_map_updates_str}
+use Rattle.text_places.specs.Places.{Places}
 use Rattle.script_checks.specs.declared.names.Entry.{Entry}
 use Rattle.std.proofs.lemmas.Option.{slice_get-get_or}
 use Rattle.script_checks.specs.Names.{Name, place_in, with_name}
@@ -103,7 +99,7 @@ not_so false b same is = refl
 some_entry : (d e : Entry) → Some d ≡ Some e → d ≡ e
 some_entry d e h = ap (λ o. unwrap_or o d) h
 
--- THE TABLE AND THE TREE AFTER ONE MORE NAME
+-- THE TABLE AND THE MAP AFTER ONE MORE NAME
 
 -- whether a text is in the bucket of another, where there are so many
 abbrev alike : ℕ → Entry → List ℕ → Bool
@@ -120,7 +116,7 @@ is_last entries e first q p at here =
     ap (λ d. bytes_eq d.text.now q) (sym (some_entry e first last))
 
 -- the first name of a text's bucket is an earlier one
-is_known : (old : List (Option ℕ)) (others : BTreeMap (Bor (List ℕ)) ℕ) (entries : List Entry) (e first : Entry) (q : List ℕ) (p : ℕ)
+is_known : (old : List (Option ℕ)) (others : Places) (entries : List Entry) (e first : Entry) (q : List ℕ) (p : ℕ)
     → IsIndex old others entries →
     first_for old q ≡ Some p → slice_get (entries ++ e ∷ []) p ≡ Some first →
     place_in (map known_of entries) q ≡ cond (bytes_eq first.text.now q) (Some p) (other_of others q)
@@ -128,7 +124,7 @@ is_known old others entries e first q p index found here =
     index.finds q p first found (entry_before entries e first p (index.within (bucket_of (length old) q) p found) here)
 
 -- no name is in its bucket: it is the first
-pub index_first : (old : List (Option ℕ)) (others : BTreeMap (Bor (List ℕ)) ℕ) (entries : List Entry) (e : Entry) (bucket place : ℕ) → place ≡ length entries →
+pub index_first : (old : List (Option ℕ)) (others : Places) (entries : List Entry) (e : Entry) (bucket place : ℕ) → place ≡ length entries →
     IsIndex old others entries → length entries < 2 ^ 32 - 1 → bucket ≡ bucket_of (length old) e.text.now → bucket < length old
     → first_for old e.text.now ≡ None →
     IsIndex (set old bucket (Some place)) others (entries ++ e ∷ [])
@@ -168,13 +164,11 @@ index_first old others entries e bucket place at index room its inside free =
     }
 
 -- another name is in its bucket: it is one of the others
-pub index_other : (firsts : List (Option ℕ)) (old new : BTreeMap (Bor (List ℕ)) ℕ) (entries : List Entry) (e : Entry) (place taken_at : ℕ)
+pub index_other : (firsts : List (Option ℕ)) (old new : Places) (entries : List Entry) (e : Entry) (place taken_at : ℕ)
     → place ≡ length entries →
     IsIndex firsts old entries → length entries < 2 ^ 32 - 1 → first_for firsts e.text.now ≡ Some taken_at → place_in (map known_of entries) e.text.now ≡ None →
-    UpdatesBy (λ x y. slice_cmp nat_cmp x.now y.now) (λ k. slice_cmp nat_cmp e.text.now k.now) old new (Some place) → IsIndex firsts new (entries ++ e ∷ [])
-index_other firsts old new entries e place taken_at at index room used absent updates =
-    let other : (q : List ℕ) → other_of new q ≡ cond (bytes_eq e.text.now q) (Some place) (other_of old q) =
-    btree_map_updates_str e.text.now old new (Some place) updates in
+    ((q : List ℕ) → other_of new q ≡ cond (bytes_eq e.text.now q) (Some place) (other_of old q)) → IsIndex firsts new (entries ++ e ∷ [])
+index_other firsts old new entries e place taken_at at index room used absent other =
     let not_new : (q : List ℕ) → first_for firsts q ≡ None → bytes_eq e.text.now q ≡ false =
     λ q gone. not_so (bytes_eq e.text.now q) (is_some (first_for firsts q))
     (λ s. ap is_some (ap (λ t. first_for firsts t) (sym ((bytes_eq-Decides e.text.now q).0 s)) ∙ used)) (ap is_some gone) in
@@ -194,15 +188,26 @@ index_other firsts old new entries e place taken_at at index room used absent up
           ∙ ap (cond (bytes_eq first.text.now q) (Some p)) (sym (other q)));
     }
 
+-- a text that is no name isn't among the others
+pub not_other : (firsts : List (Option ℕ)) (others : Places) (entries : List Entry) (e : Entry) (p : ℕ) → IsIndex firsts others entries
+    → first_for firsts e.text.now ≡ Some p → place_in (map known_of entries) e.text.now ≡ None → other_of others e.text.now ≡ None
+not_other firsts others entries e p index used absent =
+    none_left (bytes_eq (get_or entries p e).text.now e.text.now) (other_of others e.text.now)
+    (sym (index.finds e.text.now p (get_or entries p e) used
+    (slice_get-get_or entries p e (index.within (bucket_of (length firsts) e.text.now) p used))) ∙ absent) where
+      none_left : (b : Bool) (x : Option ℕ) → cond b (Some p) x ≡ None → x ≡ None
+      none_left true x h = cc
+      none_left false x h = h
+
 -- LOOK-UPS
 
-entry_at : (firsts : List (Option ℕ)) (others : BTreeMap (Bor (List ℕ)) ℕ) (entries : List Entry) (bucket p : ℕ) (first : Entry)
+entry_at : (firsts : List (Option ℕ)) (others : Places) (entries : List Entry) (bucket p : ℕ) (first : Entry)
     → IsIndex firsts others entries →
     first_of firsts bucket ≡ Some p → first ≡ get_or entries p first → slice_get entries p ≡ Some first
 entry_at firsts others entries bucket p first index found is = slice_get-get_or entries p first (index.within bucket p found) ∙ ap (λ x. Some x) (sym is)
 
 -- the first name of a text's bucket is the text
-pub found_first : (firsts : List (Option ℕ)) (others : BTreeMap (Bor (List ℕ)) ℕ) (entries : List Entry) (names : List Name) (q : List ℕ) (p : ℕ)
+pub found_first : (firsts : List (Option ℕ)) (others : Places) (entries : List Entry) (names : List Name) (q : List ℕ) (p : ℕ)
     (first : Entry) →
     map known_of entries ≡ names → IsIndex firsts others entries → first_for firsts q ≡ Some p → first ≡ get_or entries p first →
     bytes_eq first.text.now q ≡ true → place_in names q ≡ Some p
@@ -212,7 +217,7 @@ found_first firsts others entries names q p first view index found is same =
     ∙ ap (λ b. cond b (Some p) (other_of others q)) same)
 
 -- it is another
-pub found_other : (firsts : List (Option ℕ)) (others : BTreeMap (Bor (List ℕ)) ℕ) (entries : List Entry) (names : List Name) (q : List ℕ) (p : ℕ)
+pub found_other : (firsts : List (Option ℕ)) (others : Places) (entries : List Entry) (names : List Name) (q : List ℕ) (p : ℕ)
     (first : Entry) →
     map known_of entries ≡ names → IsIndex firsts others entries → first_for firsts q ≡ Some p → first ≡ get_or entries p first →
     bytes_eq first.text.now q ≡ false → place_in names q ≡ other_of others q

@@ -1,11 +1,8 @@
--- The names that are known, and the table and the tree that find their places.
+-- The names that are known, and the table and the map that find their places.
 use Rattle.std.specs.Prelude.{◌≡◌, ℕ, ◌*◌, ◌/◌, ◌<◌, ◌^◌, cond, List, length, map, Option, Some, None, slice_get, slice_index_or}
-use Rattle.std.specs.Cmp.Lexicographic.{slice_cmp}
-use Rattle.std.specs.Ordering.{nat_cmp}
 use Rattle.std.specs.Str.{bytes_eq}
 use Rattle.std.specs.Hash.FoldHasher.{initial, write, finish}
-use Rattle.std.specs.BTreeMap.{BTreeMap, get_by}
-use Rattle.std.specs.Borrow.{Bor}
+use Rattle.text_places.specs.Places.{Places, place_of}
 use Rattle.script_checks.specs.declared.names.Entry.{Entry}
 use Rattle.script_checks.specs.Names.{Name, place_in}
 
@@ -29,11 +26,11 @@ abbrev pub first_for : List (Option ℕ) → List ℕ → Option ℕ
 first_for firsts text = first_of firsts (bucket_of (length firsts) text)
 
 -- the place of a name in whose bucket an earlier name is
-abbrev pub other_of : BTreeMap (Bor (List ℕ)) ℕ → List ℕ → Option ℕ
-other_of others text = get_by (λ k. slice_cmp nat_cmp text k.now) others
+abbrev pub other_of : Places → List ℕ → Option ℕ
+other_of others text = place_of others text
 
 -- a known name is found at the first name of its bucket, or among the others; no other name is found
-pub record IsIndex (firsts : List (Option ℕ)) (others : BTreeMap (Bor (List ℕ)) ℕ) (entries : List Entry) : Type 0 where
+pub record IsIndex (firsts : List (Option ℕ)) (others : Places) (entries : List Entry) : Type 0 where
   pub few : length entries < 2 ^ 32
   pub some_buckets : 0 < length firsts
   pub few_buckets : length firsts < 2 ^ 32

@@ -5,8 +5,8 @@
 //! array with values, `check_repeat` and `check_when` what stands before the brace of a block. Each answers the first
 //! fault in the order of the statement's tokens (`specs/Faults`), or the statement of a script that the text says
 //! (`specs/Spelling`), in which a name is its place among those of the script. [`Names`] finds the place of a name by
-//! its hash, or in a tree where several fall together, so an enemy who makes names of one hash gets no slow look-up;
-//! [`Kernels`] finds that of a kernel in a tree.
+//! its hash, and by `text_places` where several fall together, so an enemy who makes names of one hash gets no slow
+//! look-up; [`Kernels`] finds that of a kernel in a tree.
 #![tactic(auto)]
 
 mod checks;

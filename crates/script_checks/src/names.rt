@@ -8,10 +8,10 @@ use frame_ast::name_kind::NameKind;
 use job_base::NoMemory;
 use kernel_text::is_same;
 use std::alloc::Global;
-use std::collections::BTreeMap;
 use std::hash::{FoldHasher, Hasher};
 use std::marker::Model;
 use std::str;
+use text_places::TextPlaces;
 
 /// A name, and what it stands for.
 #[derive(Clone, Copy, Drop)]
@@ -69,7 +69,9 @@ fn first_for(firsts: &[Option<u32>], text: &[u8]) -> Option<u32>
 fn empty_buckets(alloc: Global, count: usize) -> Result<Vec<Option<u32>>, NoMemory>
     ensures { IfOk result (λ buckets. buckets.items ≡ replicate count None) }
 {
-    Ok(vec![in alloc; None; count]?)
+    let mut buckets = Vec::new(alloc);
+    buckets.resize(count, None)?;
+    Ok(buckets)
 }
 
 /// The most buckets that names have.
@@ -78,14 +80,14 @@ const MOST_BUCKETS: usize = 262_144;
 /// The names that are known, each with what it stands for. A name's place is its number among them.
 ///
 /// They stand in buckets by their hashes. Most are the first of their bucket, and a look-up of one compares its bytes
-/// once. An enemy can make names of one bucket: all but the first of them are found in a tree, so no look-up takes more
-/// comparisons than that is deep.
+/// once. The others are found by another part of their hashes. An enemy can make names of one hash: all but the first two
+/// of them are found in a tree, so no look-up takes more comparisons than that is deep.
 #[derive(Drop)]
 pub struct Names<'a> {
     /// The place of the first name of each bucket.
     firsts: Vec<Option<u32>>,
     /// The places of the names in whose bucket an earlier name is.
-    others: BTreeMap<&'a [u8], u32>,
+    others: TextPlaces<'a>,
     entries: Vec<Entry<'a>>,
 }
 
@@ -109,7 +111,8 @@ impl<'a> Names<'a> {
     {
         Ok(Names {
             firsts: empty_buckets(alloc, buckets.clamp(1, MOST_BUCKETS))?,
-            others: BTreeMap::new(alloc),
+            // Where there are four buckets for each name, one name in eight is among the others.
+            others: TextPlaces::new(alloc, buckets / 4),
             entries: Vec::new(alloc),
         })
     }
@@ -130,7 +133,7 @@ impl<'a> Names<'a> {
         if is_same(self.entries[first as usize].text, text) {
             return Some(first);
         }
-        self.others.get(text).copied()
+        self.others.get(text)
     }
 
     /// The place of a name, and what it stands for.
@@ -169,7 +172,7 @@ impl<'a> Names<'a> {
             }
             Some(_) => {
                 self.entries.push(Entry { text, kind })?;
-                if self.others.insert(text, place).is_err() {
+                if self.others.put(text, place).is_err() {
                     self.entries.pop();
                     return Err(NoMemory);
                 }

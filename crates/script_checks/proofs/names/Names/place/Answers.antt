@@ -1,6 +1,6 @@
 use Rattle.std.proofs.Common.{rules, ◌≡◌, ◌∙◌, true, false, Some, sym}
 use Rattle.std.specs.Str.{bytes_eq}
-use Rattle.script_checks.specs.Index.{first_for, other_of}
+use Rattle.script_checks.specs.Index.{first_for}
 use Rattle.script_checks.proofs.IndexLemmas.{found_first, found_other}
 use Rattle.script_checks.proofs.names.Names.place.Goals as goal
 
@@ -16,7 +16,6 @@ pub returns : goal.returns
 returns c =
     let found : first_for c.self.inside.firsts.items c.args.text.now ≡ Some c.in_ok-first.first = search rules in
     let other : bytes_eq c.index.result.now.text.now c.args.text.now ≡ false = search rules in
-    let copied : c.copied.result ≡ other_of c.self.inside.others c.args.text.now = search rules in
-    copied ∙ sym (found_other c.self.inside.firsts.items c.self.inside.others c.self.inside.entries.items c.args.self.now c.args.text.now c.in_ok-first.first
+    c.get.ensures ∙ sym (found_other c.self.inside.firsts.items c.self.inside.others c.self.inside.entries.items c.args.self.now c.args.text.now c.in_ok-first.first
     c.index.result.now
     c.self.view_is c.self.invariant found c.index.ensures other)
