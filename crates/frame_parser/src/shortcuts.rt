@@ -10,7 +10,7 @@ ghost use Rattle.frame_grammar.specs.declared.token_kind.TokenKind.{TokenKind};
 ghost use Rattle.frame_grammar.specs.declared.symbols.Nonterminal.TheVariants as nonterminal;
 ghost use Rattle.frame_grammar.specs.declared.symbols.Event.{Event};
 ghost use Rattle.frame_parser.specs.Notes.{events_of};
-ghost use Rattle.frame_parser.specs.StackSymbols.{standing};
+ghost use Rattle.grammar_table.specs.StackSymbols.{standing};
 ghost use Rattle.frame_parser.specs.Shortcuts.{begins_effect};
 ghost use Rattle.frame_parser.specs.Parser.{IsStep};
 
@@ -18,11 +18,9 @@ use crate::levels::{compared, expression, more_and, more_factors, more_or, more_
 use crate::note::Note;
 use crate::operands::{Expected, Side};
 use crate::stack::{note, note_both, put};
-use crate::stack_symbol::StackSymbol::{
-    self, LinedAction, LinedNonterminal, Nonterminal, Terminal,
-};
 use crate::statements::statement_step;
 use frame_grammar::{Action as A, Nonterminal as N, TokenKind as K};
+use grammar_table::StackSymbol::{self, LinedAction, LinedNonterminal, Nonterminal, Terminal};
 use std::alloc::AllocError;
 
 /// What was done with the nonterminal that was on top of the stack.

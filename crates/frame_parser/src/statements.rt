@@ -7,22 +7,23 @@ ghost use Rattle.frame_grammar.specs.declared.symbols.Nonterminal.TheVariants as
 ghost use Rattle.frame_grammar.specs.declared.symbols.Symbol.{Symbol};
 ghost use Rattle.frame_grammar.specs.declared.symbols.Event.{Event};
 ghost use Rattle.frame_parser.specs.Notes.{events_of};
-ghost use Rattle.frame_parser.specs.StackSymbols.{standing};
+ghost use Rattle.grammar_table.specs.StackSymbols.{standing};
 ghost use Rattle.frame_parser.specs.Parser.{IsStep};
-ghost use Rattle.frame_grammar.specs.Predict.{predicted};
+ghost use Rattle.grammar_table.specs.Predict.{predicted};
 ghost use Rattle.frame_parser.specs.Shortcuts.{tells_life};
 
 use crate::note::Note;
 use crate::shortcuts::Step;
-use crate::stack::{note, push_rest, put};
-use crate::stack_symbol::StackSymbol::{self, Nonterminal, Terminal};
+use crate::stack::{note, put};
 use frame_grammar::{Action as A, Nonterminal as N, Production as P, TokenKind as K};
+use grammar_table::StackSymbol::{self, Nonterminal, Terminal};
+use grammar_table::push_rest;
 use std::alloc::AllocError;
 
-// TO ADD A STATEMENT: 4, its first token, here and in `choices`.
+// TO ADD A STATEMENT: 4, its first token, here and in `choices` of grammar_table.
 
 /// The production of the statements that begin with this token.
-#[tactic(auto, unfolding(frame_grammar::specs::Table::choices_of, frame_grammar::specs::Predict::same_kind))]
+#[tactic(auto, unfolding(grammar_table::specs::Table::choices_of, grammar_table::specs::Predict::same_kind))]
 fn statement_with(ahead: K) -> Option<P>
     ensures { IfSome result (λ production. predicted nonterminal.Statement ahead ≡ Some production) }
 {
