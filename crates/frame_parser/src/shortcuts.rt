@@ -18,7 +18,7 @@ use crate::levels::{compared, expression, more_and, more_factors, more_or, more_
 use crate::note::Note;
 use crate::operands::{Expected, Side};
 use crate::stack::{note, note_both, put};
-use crate::statements::statement_step;
+use crate::statements::{after_item, array_values, items, life, maybe_signed, signed, statement};
 use frame_grammar::{Action as A, Nonterminal as N, TokenKind as K};
 use grammar_table::StackSymbol::{self, LinedAction, LinedNonterminal, Nonterminal, Terminal};
 use std::alloc::AllocError;
@@ -243,6 +243,13 @@ pub fn known_step(
         N::MoreAnd => Ok(more_and(ahead)),
         N::MoreOr => Ok(more_or(ahead)),
         N::MoreValues => more_values(stack, events, ahead, place),
-        _ => statement_step(stack, events, nonterminal, ahead, place),
+        N::Items => items(stack, events, ahead, place),
+        N::AfterItem => after_item(stack, ahead),
+        N::Statement => statement(stack, ahead),
+        N::Signed => signed(stack, events, ahead, place),
+        N::MaybeSigned => maybe_signed(stack, events, ahead, place),
+        N::Life => life(events, ahead, place),
+        N::ArrayValues => array_values(events, ahead, place),
+        _ => Ok(Step::Unknown),
     }
 }
