@@ -11,18 +11,18 @@ use Rattle.frame_grammar.specs.declared.symbols.Action.TheVariants as action
 use Rattle.frame_grammar.specs.declared.symbols.Symbol.{Symbol}
 use Rattle.frame_grammar.specs.declared.symbols.Symbol.TheVariants as symbol
 use Rattle.frame_grammar.specs.declared.symbols.Event.{Event}
-use Rattle.frame_parser.specs.declared.stack_symbol.StackSymbol.TheVariants as waiting
+use Rattle.grammar_table.specs.declared.stack_symbol.StackSymbol.TheVariants as waiting
 use Rattle.frame_parser.specs.declared.operands.Expected.{Expected}
 use Rattle.frame_grammar.specs.Bodies.{body_of}
-use Rattle.frame_grammar.specs.Table.{choices_of, default_of}
-use Rattle.frame_grammar.specs.Sets.{is_nullable_of, rank_of}
-use Rattle.frame_grammar.specs.Stack.{weight, Goes}
+use Rattle.grammar_table.specs.Table.{choices_of, default_of}
+use Rattle.grammar_table.specs.Sets.{is_nullable_of, rank_of}
+use Rattle.grammar_table.specs.Stack.{weight, Goes}
 use Rattle.frame_parser.specs.Parser.{IsPart}
-use Rattle.frame_grammar.specs.Predict.{predicted, same_kind}
+use Rattle.grammar_table.specs.Predict.{predicted, same_kind}
 use Rattle.frame_parser.specs.Shortcuts.{begins_effect, multiplies, adds, compares, is_and_or, joins}
-use Rattle.frame_parser.specs.StackSymbols.{after_term, symbols_of}
+use Rattle.grammar_table.specs.StackSymbols.{after_term, symbols_of}
 use Rattle.frame_parser.proofs.Takings.{leads_go, no_factor, no_term, no_comparison, no_and, no_or}
-use Rattle.frame_grammar.proofs.Steps.{leads_start, goes_on_by, smaller}
+use Rattle.grammar_table.proofs.Steps.{leads_start, goes_on_by, smaller}
 
 -- what an expression goes on by before any token: its first operand, and at each level what may follow there
 abbrev pub expression_levels : List Symbol

@@ -2,8 +2,8 @@
 use Rattle.std.proofs.Common.{refl}
 use Rattle.frame_parser.specs.declared.known_lines.TheConstants.{ARRAY, ARRAY_NOTES, LIST, LIST_NOTES, MAP, MAP_NOTES, REFERENCE, REFERENCE_NOTES, REFERENCE_VALUE, REFERENCE_VALUE_NOTES, STREAM, STREAM_NOTES, SLICE, SLICE_NOTES, VIEW, VIEW_NOTES, COPY, COPY_NOTES, SET_AT, SET_AT_NOTES, SET, SET_NOTES, ADD, ADD_NOTES, ADD_PAIR, ADD_PAIR_NOTES, PUT, PUT_NOTES, REMOVE, REMOVE_NOTES, CLEAR, CLEAR_NOTES, SET_CAPACITY, SET_CAPACITY_NOTES, COMPLETE, COMPLETE_NOTES, DISPOSE, DISPOSE_NOTES, PRINT, PRINT_NOTES, FLUSH, FLUSH_NOTES, FRAME, FRAME_NOTES, EMPTY, EMPTY_NOTES}
 use Rattle.frame_grammar.specs.Bodies.{body_of}
-use Rattle.frame_grammar.specs.Table.{choices_of, default_of}
-use Rattle.frame_grammar.specs.Predict.{same_kind}
+use Rattle.grammar_table.specs.Table.{choices_of, default_of}
+use Rattle.grammar_table.specs.Predict.{same_kind}
 use Rattle.frame_parser.specs.Lines.{IsLine}
 
 pub array_is : IsLine ARRAY ARRAY_NOTES

@@ -1,4 +1,3 @@
-pub mod Stacks
 pub mod Takings
 pub mod Expressions
 mod StatementTakings

@@ -16,10 +16,10 @@ use Rattle.frame_grammar.specs.declared.symbols.Production.{Production}
 use Rattle.frame_grammar.specs.declared.symbols.Symbol.{Symbol}
 use Rattle.frame_grammar.specs.declared.symbols.Symbol.TheVariants as symbol
 use Rattle.frame_grammar.specs.Bodies.{body_of}
-use Rattle.frame_grammar.specs.Predict.{predicted, same_kind}
-use Rattle.frame_grammar.specs.Stack.{Between, Takes}
+use Rattle.grammar_table.specs.Predict.{predicted, same_kind}
+use Rattle.grammar_table.specs.Stack.{Between, Takes}
 use Rattle.frame_parser.specs.Lines.{Left, behind, expanded, taken_with, then_with, all_taken, events_at, IsLine, AreAt, TakesLines}
-use Rattle.frame_grammar.proofs.Steps.{Leads, leads_start, goes_on_by, acts, kinds_same, between_more}
+use Rattle.grammar_table.proofs.Steps.{Leads, leads_start, goes_on_by, acts, kinds_same, between_more}
 use Rattle.frame_parser.proofs.Takings.{takes}
 
 same_left : {a b : Left} → Some a ≡ Some b → a ≡ b

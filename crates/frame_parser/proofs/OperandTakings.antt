@@ -15,17 +15,17 @@ use Rattle.frame_grammar.specs.declared.symbols.Event.{Event}
 use Rattle.frame_grammar.specs.declared.symbols.Nonterminal.{Nonterminal}
 use Rattle.frame_grammar.specs.declared.symbols.Symbol.{Symbol}
 use Rattle.frame_grammar.specs.declared.symbols.Symbol.TheVariants as symbol
-use Rattle.frame_parser.specs.declared.stack_symbol.StackSymbol.TheVariants as waiting
+use Rattle.grammar_table.specs.declared.stack_symbol.StackSymbol.TheVariants as waiting
 use Rattle.frame_grammar.specs.Bodies.{body_of}
-use Rattle.frame_grammar.specs.Table.{choices_of, default_of}
-use Rattle.frame_grammar.specs.Predict.{same_kind}
+use Rattle.grammar_table.specs.Table.{choices_of, default_of}
+use Rattle.grammar_table.specs.Predict.{same_kind}
 use Rattle.frame_parser.specs.Lines.{all_taken, events_at, AreAt}
 use Rattle.frame_parser.specs.Operands.{to_come, behind_of}
-use Rattle.frame_grammar.specs.Stack.{Between, closes, Takes}
+use Rattle.grammar_table.specs.Stack.{Between, closes, Takes}
 use Rattle.frame_parser.specs.Parser.{TakesFrom, TakesOn}
-use Rattle.frame_parser.specs.StackSymbols.{symbols_of}
+use Rattle.grammar_table.specs.StackSymbols.{symbols_of}
 use Rattle.frame_parser.proofs.LineTakings.{taken_at_once, all_between}
-use Rattle.frame_grammar.proofs.Steps.{between_more}
+use Rattle.grammar_table.proofs.Steps.{between_more}
 
 -- What a side begins with
 

@@ -12,11 +12,11 @@ use Rattle.frame_grammar.specs.declared.symbols.Symbol.{Symbol}
 use Rattle.frame_grammar.specs.declared.symbols.Symbol.TheVariants as symbol
 use Rattle.frame_grammar.specs.declared.symbols.Event.{Event}
 use Rattle.frame_grammar.specs.Bodies.{body_of}
-use Rattle.frame_grammar.specs.Table.{choices_of, default_of}
-use Rattle.frame_grammar.specs.Predict.{predicted, same_kind}
-use Rattle.frame_grammar.specs.Stack.{Takes, Goes, weight}
+use Rattle.grammar_table.specs.Table.{choices_of, default_of}
+use Rattle.grammar_table.specs.Predict.{predicted, same_kind}
+use Rattle.grammar_table.specs.Stack.{Takes, Goes, weight}
 use Rattle.frame_parser.specs.Shortcuts.{tells_life}
-use Rattle.frame_grammar.proofs.Steps.{Leads, leads_start, goes_on_by, acts, smaller}
+use Rattle.grammar_table.proofs.Steps.{Leads, leads_start, goes_on_by, acts, smaller}
 use Rattle.frame_parser.proofs.Takings.{takes, leaves}
 
 same_some : {p q : Production} → Some p ≡ Some q → p ≡ q

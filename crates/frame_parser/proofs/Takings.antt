@@ -16,17 +16,17 @@ use Rattle.frame_grammar.specs.declared.symbols.Event.{Event}
 use Rattle.frame_parser.specs.declared.operands.Expected.{Expected}
 use Rattle.frame_parser.specs.Operands.{to_come}
 use Rattle.frame_grammar.specs.Bodies.{body_of}
-use Rattle.frame_grammar.specs.Table.{choices_of, default_of}
-use Rattle.frame_grammar.specs.Predict.{predicted, same_kind}
-use Rattle.frame_grammar.specs.Stack.{Takes, Goes, weight}
+use Rattle.grammar_table.specs.Table.{choices_of, default_of}
+use Rattle.grammar_table.specs.Predict.{predicted, same_kind}
+use Rattle.grammar_table.specs.Stack.{Takes, Goes, weight}
 use Rattle.frame_parser.specs.Parser.{IsPart}
 use Rattle.frame_parser.specs.Shortcuts.{multiplies, adds, compares}
-use Rattle.frame_parser.specs.StackSymbols.{symbols_of, is_lined, ends_line, takes_line}
-use Rattle.frame_parser.specs.declared.stack_symbol.StackSymbol.{StackSymbol}
-use Rattle.frame_parser.specs.declared.stack_symbol.StackSymbol.TheVariants as waiting
-use Rattle.frame_grammar.proofs.Steps.{Leads, leads_start, goes_on_by, acts, smaller}
-use Rattle.frame_grammar.proofs.Run.{shift}
-use Rattle.frame_grammar.proofs.Ends.{closes-terminal}
+use Rattle.grammar_table.specs.StackSymbols.{symbols_of, is_lined, ends_line, takes_line}
+use Rattle.grammar_table.specs.declared.stack_symbol.StackSymbol.{StackSymbol}
+use Rattle.grammar_table.specs.declared.stack_symbol.StackSymbol.TheVariants as waiting
+use Rattle.grammar_table.proofs.Steps.{Leads, leads_start, goes_on_by, acts, smaller}
+use Rattle.grammar_table.proofs.Run.{shift}
+use Rattle.grammar_table.proofs.Closes.{closes-terminal}
 
 -- the token ahead is on top of the stack
 pub takes : (ahead : TokenKind) (place : ℕ) (done0 done : List Event) (ss0 ss : List Symbol) → Leads ahead place done0 ss0 done (symbol.Terminal ahead ∷ ss)

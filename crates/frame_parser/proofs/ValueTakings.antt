@@ -11,15 +11,15 @@ use Rattle.frame_grammar.specs.declared.symbols.Symbol.TheVariants as symbol
 use Rattle.frame_parser.specs.declared.values.Value.{Value}
 use Rattle.frame_parser.specs.declared.values.Value.TheVariants.{Sign, Plain, Negative}
 use Rattle.frame_grammar.specs.Bodies.{body_of}
-use Rattle.frame_grammar.specs.Table.{choices_of, default_of}
-use Rattle.frame_grammar.specs.Predict.{same_kind}
-use Rattle.frame_grammar.specs.Stack.{Between, Takes, Stops}
+use Rattle.grammar_table.specs.Table.{choices_of, default_of}
+use Rattle.grammar_table.specs.Predict.{same_kind}
+use Rattle.grammar_table.specs.Stack.{Between, Takes, Stops}
 use Rattle.frame_parser.specs.Parser.{StopsFrom, TakesFrom}
-use Rattle.frame_parser.specs.declared.stack_symbol.StackSymbol.{StackSymbol}
-use Rattle.frame_parser.specs.declared.stack_symbol.StackSymbol.TheVariants as waiting
+use Rattle.grammar_table.specs.declared.stack_symbol.StackSymbol.{StackSymbol}
+use Rattle.grammar_table.specs.declared.stack_symbol.StackSymbol.TheVariants as waiting
 use Rattle.frame_parser.specs.Values.{rest_of, are_values, in_values, TakesValues}
 use Rattle.frame_parser.proofs.LineTakings.{taken_at_once}
-use Rattle.frame_grammar.proofs.Steps.{between_more, finds, fault_at}
+use Rattle.grammar_table.proofs.Steps.{between_more, finds, fault_at}
 
 -- the same in the words of whoever asks
 pub part_taken : (value value0 next : Value) (k k0 : TokenKind) (place : ℕ) (done done1 done1' : List Event) → value ≡ value0 → k ≡ k0 → done1 ≡ done1' →

@@ -3,7 +3,6 @@ pub mod Notes
 -- for this crate's own contracts
 pub mod Parser
 pub mod Shortcuts
-pub mod StackSymbols
 pub mod Lines
 pub mod Values
 pub mod Operands

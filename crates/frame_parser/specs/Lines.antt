@@ -10,8 +10,8 @@ use Rattle.frame_grammar.specs.declared.symbols.Production.{Production}
 use Rattle.frame_grammar.specs.declared.symbols.Symbol.{Symbol}
 use Rattle.frame_grammar.specs.declared.symbols.Symbol.TheVariants as symbol
 use Rattle.frame_grammar.specs.Bodies.{body_of}
-use Rattle.frame_grammar.specs.Predict.{predicted, same_kind}
-use Rattle.frame_grammar.specs.Stack.{Between}
+use Rattle.grammar_table.specs.Predict.{predicted, same_kind}
+use Rattle.grammar_table.specs.Stack.{Between}
 
 -- What is noted, and what is left on the stack.
 pub record Left : Type 0 where

@@ -9,8 +9,8 @@ use Rattle.frame_grammar.specs.declared.symbols.Nonterminal.{Nonterminal}
 use Rattle.frame_grammar.specs.declared.symbols.Nonterminal.TheVariants as nonterminal
 use Rattle.frame_grammar.specs.declared.symbols.Symbol.{Symbol}
 use Rattle.frame_grammar.specs.declared.symbols.Symbol.TheVariants as symbol
-use Rattle.frame_parser.specs.declared.stack_symbol.StackSymbol.TheVariants as waiting
-use Rattle.frame_parser.specs.StackSymbols.{symbols_of}
+use Rattle.grammar_table.specs.declared.stack_symbol.StackSymbol.TheVariants as waiting
+use Rattle.grammar_table.specs.StackSymbols.{symbols_of}
 
 abbrev pub nonterminal_of : Expected → Nonterminal
 nonterminal_of expected.Place = nonterminal.Place

@@ -10,7 +10,7 @@ use Rattle.frame_parser.specs.declared.shortcuts.Step.{Step}
 use Rattle.frame_parser.specs.declared.shortcuts.Step.TheVariants.{Took, TookBefore, WentOn, Unknown}
 use Rattle.frame_grammar.specs.Sentences.{IsOnlySentence, IsFault}
 use Rattle.frame_parser.specs.Operands.{to_come}
-use Rattle.frame_grammar.specs.Stack.{Takes, Goes, Between}
+use Rattle.grammar_table.specs.Stack.{Takes, Goes, Between}
 
 -- what was done with these symbols, which were on top of the stack: the token ahead was taken, before what is to come
 -- then, or no token yet

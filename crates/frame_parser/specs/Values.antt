@@ -12,11 +12,11 @@ use Rattle.frame_grammar.specs.declared.symbols.Nonterminal.TheVariants.{MoreVal
 use Rattle.frame_grammar.specs.declared.symbols.Symbol.{Symbol}
 use Rattle.frame_grammar.specs.declared.symbols.Symbol.TheVariants as symbol
 use Rattle.frame_parser.specs.declared.values.Value.{Value}
-use Rattle.frame_parser.specs.declared.stack_symbol.StackSymbol.{StackSymbol}
-use Rattle.frame_parser.specs.declared.stack_symbol.StackSymbol.TheVariants as waiting
+use Rattle.grammar_table.specs.declared.stack_symbol.StackSymbol.{StackSymbol}
+use Rattle.grammar_table.specs.declared.stack_symbol.StackSymbol.TheVariants as waiting
 use Rattle.frame_parser.specs.declared.values.Value.TheVariants.{Sign, Plain, Negative}
 use Rattle.frame_parser.specs.Operands.{to_come}
-use Rattle.frame_grammar.specs.Stack.{Between, Takes, Stops}
+use Rattle.grammar_table.specs.Stack.{Between, Takes, Stops}
 
 -- the value that is whole with an action
 abbrev pub ended_by : Action → Option Value

@@ -6,18 +6,18 @@ ghost use Rattle.frame_grammar.specs.declared.symbols.Action.TheVariants as acti
 ghost use Rattle.frame_grammar.specs.declared.symbols.Nonterminal.TheVariants as nonterminal;
 ghost use Rattle.frame_grammar.specs.declared.symbols.Symbol.{Symbol};
 ghost use Rattle.frame_grammar.specs.declared.symbols.Event.{Event};
-ghost use Rattle.frame_parser.specs.declared.stack_symbol.StackSymbol.TheVariants as waiting;
+ghost use Rattle.grammar_table.specs.declared.stack_symbol.StackSymbol.TheVariants as waiting;
 ghost use Rattle.frame_parser.specs.Notes.{events_of};
 ghost use Rattle.frame_parser.specs.Parser.{IsStep, IsPart};
 ghost use Rattle.frame_parser.specs.Shortcuts.{multiplies, adds, compares, is_and_or, joins};
-ghost use Rattle.frame_parser.specs.StackSymbols.{standing, symbols_of};
+ghost use Rattle.grammar_table.specs.StackSymbols.{standing, symbols_of};
 
 use crate::note::Note;
 use crate::operands::{Expected, Side};
 use crate::shortcuts::Step;
 use crate::stack::{note, put};
-use crate::stack_symbol::StackSymbol::{self, Nonterminal};
 use frame_grammar::{Action as A, Nonterminal as N, TokenKind as K};
+use grammar_table::StackSymbol::{self, Nonterminal};
 use std::alloc::AllocError;
 
 // The operators of each level

@@ -2,7 +2,7 @@
 //!
 //! `parse` answers the one sentence that tokens begin with and its events, each as a `Note` of 32 bits, or the first
 //! token after which no sentence can follow. What a production does to the stack it takes from the table of
-//! `frame_grammar`; the steps that long files are made of it knows without the table (`shortcuts`, `levels`,
+//! `grammar_table`; the steps that long files are made of it knows without the table (`shortcuts`, `levels`,
 //! `statements`, `operands`), and whole lines and the values of an array it takes at once (`lines`, `values`). Each of
 //! these is proved to do what the table would. The stack and the notes grow with the tokens, so a deep text takes
 //! memory and no call stack.
@@ -16,7 +16,6 @@ mod operands;
 mod parser;
 mod shortcuts;
 mod stack;
-mod stack_symbol;
 mod statements;
 mod values;
 

@@ -2,10 +2,10 @@
 
 ghost use Rattle.std.specs.Prelude.{true, Some, slice_get, ◌≡◌, ◌-◌, ℕ, ◌<◌, ◌^◌, length, map, IfOk, MatchOption};
 ghost use Rattle.frame_grammar.specs.declared.symbols.Nonterminal.TheVariants.{Items};
-ghost use Rattle.frame_parser.specs.declared.stack_symbol.StackSymbol.TheVariants as waiting;
+ghost use Rattle.grammar_table.specs.declared.stack_symbol.StackSymbol.TheVariants as waiting;
 ghost use Rattle.frame_grammar.specs.Sentences.{IsStart, IsEnded, IsOnlySentence, IsFault};
 ghost use Rattle.frame_parser.specs.Notes.{events_of};
-ghost use Rattle.frame_parser.specs.StackSymbols.{standing};
+ghost use Rattle.grammar_table.specs.StackSymbols.{standing};
 ghost use Rattle.frame_parser.specs.Parser.{StopsFrom, TakesFrom};
 ghost use Rattle.frame_parser.specs.Values.{IsTaken};
 
@@ -14,10 +14,9 @@ use crate::lines::take_lines;
 use crate::note::Note;
 use crate::operands::{Expected, take_expected};
 use crate::shortcuts::{Step, known_step};
-use crate::stack::push_body;
-use crate::stack_symbol::{StackSymbol, takes_line};
 use crate::values::{Value, take_next_value, take_values};
-use frame_grammar::{HasKind, Nonterminal, TokenAt, TokenKind, predict};
+use frame_grammar::{HasKind, Nonterminal, TokenAt, TokenKind};
+use grammar_table::{StackSymbol, predict, push_body, takes_line};
 use std::alloc::{AllocError, AllocFailed, Global};
 
 /// A sentence that tokens begin with.

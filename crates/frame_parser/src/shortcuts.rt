@@ -10,7 +10,7 @@ ghost use Rattle.frame_grammar.specs.declared.token_kind.TokenKind.{TokenKind};
 ghost use Rattle.frame_grammar.specs.declared.symbols.Nonterminal.TheVariants as nonterminal;
 ghost use Rattle.frame_grammar.specs.declared.symbols.Event.{Event};
 ghost use Rattle.frame_parser.specs.Notes.{events_of};
-ghost use Rattle.frame_parser.specs.StackSymbols.{standing};
+ghost use Rattle.grammar_table.specs.StackSymbols.{standing};
 ghost use Rattle.frame_parser.specs.Shortcuts.{begins_effect};
 ghost use Rattle.frame_parser.specs.Parser.{IsStep};
 
@@ -18,11 +18,9 @@ use crate::levels::{compared, expression, more_and, more_factors, more_or, more_
 use crate::note::Note;
 use crate::operands::{Expected, Side};
 use crate::stack::{note, note_both, put};
-use crate::stack_symbol::StackSymbol::{
-    self, LinedAction, LinedNonterminal, Nonterminal, Terminal,
-};
-use crate::statements::statement_step;
+use crate::statements::{after_item, array_values, items, life, maybe_signed, signed, statement};
 use frame_grammar::{Action as A, Nonterminal as N, TokenKind as K};
+use grammar_table::StackSymbol::{self, LinedAction, LinedNonterminal, Nonterminal, Terminal};
 use std::alloc::AllocError;
 
 /// What was done with the nonterminal that was on top of the stack.
@@ -245,6 +243,13 @@ pub fn known_step(
         N::MoreAnd => Ok(more_and(ahead)),
         N::MoreOr => Ok(more_or(ahead)),
         N::MoreValues => more_values(stack, events, ahead, place),
-        _ => statement_step(stack, events, nonterminal, ahead, place),
+        N::Items => items(stack, events, ahead, place),
+        N::AfterItem => after_item(stack, ahead),
+        N::Statement => statement(stack, ahead),
+        N::Signed => signed(stack, events, ahead, place),
+        N::MaybeSigned => maybe_signed(stack, events, ahead, place),
+        N::Life => life(events, ahead, place),
+        N::ArrayValues => array_values(events, ahead, place),
+        _ => Ok(Step::Unknown),
     }
 }

@@ -7,22 +7,23 @@ ghost use Rattle.frame_grammar.specs.declared.symbols.Nonterminal.TheVariants as
 ghost use Rattle.frame_grammar.specs.declared.symbols.Symbol.{Symbol};
 ghost use Rattle.frame_grammar.specs.declared.symbols.Event.{Event};
 ghost use Rattle.frame_parser.specs.Notes.{events_of};
-ghost use Rattle.frame_parser.specs.StackSymbols.{standing};
+ghost use Rattle.grammar_table.specs.StackSymbols.{standing};
 ghost use Rattle.frame_parser.specs.Parser.{IsStep};
-ghost use Rattle.frame_grammar.specs.Predict.{predicted};
+ghost use Rattle.grammar_table.specs.Predict.{predicted};
 ghost use Rattle.frame_parser.specs.Shortcuts.{tells_life};
 
 use crate::note::Note;
 use crate::shortcuts::Step;
-use crate::stack::{note, push_rest, put};
-use crate::stack_symbol::StackSymbol::{self, Nonterminal, Terminal};
+use crate::stack::{note, put};
 use frame_grammar::{Action as A, Nonterminal as N, Production as P, TokenKind as K};
+use grammar_table::StackSymbol::{self, Nonterminal, Terminal};
+use grammar_table::push_rest;
 use std::alloc::AllocError;
 
-// TO ADD A STATEMENT: 4, its first token, here and in `choices`.
+// TO ADD A STATEMENT: 4, its first token, here and in `choices` of grammar_table.
 
 /// The production of the statements that begin with this token.
-#[tactic(auto, unfolding(frame_grammar::specs::Table::choices_of, frame_grammar::specs::Predict::same_kind))]
+#[tactic(auto, unfolding(grammar_table::specs::Table::choices_of, grammar_table::specs::Predict::same_kind))]
 fn statement_with(ahead: K) -> Option<P>
     ensures { IfSome result (λ production. predicted nonterminal.Statement ahead ≡ Some production) }
 {
@@ -55,7 +56,7 @@ fn statement_with(ahead: K) -> Option<P>
     }
 }
 
-fn statement(stack: &mut Vec<StackSymbol>, ahead: K) -> Result<Step, AllocError>
+pub fn statement(stack: &mut Vec<StackSymbol>, ahead: K) -> Result<Step, AllocError>
     ensures { IfOk result (λ step. (place : ℕ) (done : List Event) →
         IsStep step ahead place nonterminal.Statement done (standing stack.old.items) done (standing stack.new.items)) }
 {
@@ -68,7 +69,7 @@ fn statement(stack: &mut Vec<StackSymbol>, ahead: K) -> Result<Step, AllocError>
     }
 }
 
-fn items(
+pub fn items(
     stack: &mut Vec<StackSymbol>,
     events: &mut Vec<Note>,
     ahead: K,
@@ -89,7 +90,7 @@ fn items(
     }
 }
 
-fn after_item(stack: &mut Vec<StackSymbol>, ahead: K) -> Result<Step, AllocError>
+pub fn after_item(stack: &mut Vec<StackSymbol>, ahead: K) -> Result<Step, AllocError>
     ensures { IfOk result (λ step. (place : ℕ) (done : List Event) →
         IsStep step ahead place nonterminal.AfterItem done (standing stack.old.items) done (standing stack.new.items)) }
 {
@@ -101,7 +102,7 @@ fn after_item(stack: &mut Vec<StackSymbol>, ahead: K) -> Result<Step, AllocError
     }
 }
 
-fn signed(
+pub fn signed(
     stack: &mut Vec<StackSymbol>,
     events: &mut Vec<Note>,
     ahead: K,
@@ -133,7 +134,7 @@ fn signed(
     }
 }
 
-fn maybe_signed(
+pub fn maybe_signed(
     stack: &mut Vec<StackSymbol>,
     events: &mut Vec<Note>,
     ahead: K,
@@ -160,7 +161,7 @@ fn tells_life(kind: K) -> bool
     matches!(kind, K::Temp | K::TempJob | K::Persistent)
 }
 
-fn life(events: &mut Vec<Note>, ahead: K, place: u32) -> Result<Step, AllocError>
+pub fn life(events: &mut Vec<Note>, ahead: K, place: u32) -> Result<Step, AllocError>
     requires { place < 2 ^ 25 }
     ensures { IfOk result (λ step. (ss : List Symbol) →
         IsStep step ahead place nonterminal.Life (events_of events.old.items) ss (events_of events.new.items) ss) }
@@ -173,7 +174,7 @@ fn life(events: &mut Vec<Note>, ahead: K, place: u32) -> Result<Step, AllocError
     }
 }
 
-fn array_values(events: &mut Vec<Note>, ahead: K, place: u32) -> Result<Step, AllocError>
+pub fn array_values(events: &mut Vec<Note>, ahead: K, place: u32) -> Result<Step, AllocError>
     requires { place < 2 ^ 25 }
     ensures { IfOk result (λ step. (ss : List Symbol) → IsStep step ahead place nonterminal.ArrayValues
         (events_of events.old.items) ss (events_of events.new.items) ss) }
@@ -183,31 +184,5 @@ fn array_values(events: &mut Vec<Note>, ahead: K, place: u32) -> Result<Step, Al
     } else {
         note(events, A::NoValues, place)?;
         Ok(Step::WentOn)
-    }
-}
-
-/// Goes on with a nonterminal that was on top of the stack, where it is one of a script and what it does before the
-/// token ahead is known.
-#[inline(always)]
-pub fn statement_step(
-    stack: &mut Vec<StackSymbol>,
-    events: &mut Vec<Note>,
-    nonterminal: N,
-    ahead: K,
-    place: u32,
-) -> Result<Step, AllocError>
-    requires { place < 2 ^ 25 }
-    ensures { IfOk result (λ step. IsStep step ahead place nonterminal (events_of events.old.items)
-        (standing stack.old.items) (events_of events.new.items) (standing stack.new.items)) }
-{
-    match nonterminal {
-        N::Items => items(stack, events, ahead, place),
-        N::AfterItem => after_item(stack, ahead),
-        N::Statement => statement(stack, ahead),
-        N::Signed => signed(stack, events, ahead, place),
-        N::MaybeSigned => maybe_signed(stack, events, ahead, place),
-        N::Life => life(events, ahead, place),
-        N::ArrayValues => array_values(events, ahead, place),
-        _ => Ok(Step::Unknown),
     }
 }

@@ -8,14 +8,14 @@ ghost use Rattle.frame_grammar.specs.declared.symbols.Nonterminal.TheVariants.{M
 ghost use Rattle.frame_grammar.specs.declared.symbols.Symbol.{Symbol};
 ghost use Rattle.frame_grammar.specs.declared.symbols.Symbol.TheVariants as symbol;
 ghost use Rattle.frame_parser.specs.Notes.{events_of};
-ghost use Rattle.frame_grammar.specs.Stack.{Takes};
+ghost use Rattle.grammar_table.specs.Stack.{Takes};
 ghost use Rattle.frame_parser.specs.Values.{ended_by, next_value, are_values, value_after, rest_of, in_values, TakesValues};
-ghost use Rattle.frame_parser.specs.StackSymbols.{standing};
+ghost use Rattle.grammar_table.specs.StackSymbols.{standing};
 
 use crate::note::Note;
 use crate::stack::{note, note_both, put};
-use crate::stack_symbol::StackSymbol;
 use frame_grammar::{Action as A, HasKind, Nonterminal as N, TokenKind as K};
+use grammar_table::StackSymbol;
 use std::alloc::AllocError;
 
 /// How far a value is read.

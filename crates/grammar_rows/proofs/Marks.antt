@@ -7,7 +7,7 @@ use Rattle.std.specs.Prelude.{unwrap_or}
 use Rattle.frame_grammar.specs.declared.token_kind.TokenKind.{TokenKind}
 use Rattle.frame_grammar.specs.declared.token_kind.TokenKind.TheVariants.{Line, End, Bad}
 use Rattle.frame_grammar.specs.declared.token_kind.TokenKind.TheVariants as kind
-use Rattle.frame_grammar.proofs.Checks.{same_kind_true}
+use Rattle.grammar_table.proofs.Checks.{same_kind_true}
 use Rattle.std.specs.List.{list_all}
 use Rattle.frame_grammar.specs.declared.symbols.Nonterminal.{Nonterminal}
 use Rattle.frame_grammar.specs.declared.symbols.Nonterminal.TheVariants.{File, Kernel}
@@ -15,12 +15,12 @@ use Rattle.frame_grammar.specs.declared.symbols.Action.{Action}
 use Rattle.frame_grammar.specs.declared.symbols.Action.TheVariants as action
 use Rattle.frame_grammar.specs.declared.symbols.Event.{Event}
 use Rattle.frame_grammar.specs.Sentences.{IsStart, IsSentence, IsViable, IsOnlySentence}
-use Rattle.frame_grammar.specs.Stack.{has_kind}
+use Rattle.grammar_table.specs.Stack.{has_kind}
 use Rattle.kernel_text.specs.Spellings.{spelling_of, symbols, reserved_words}
 use Rattle.kernel_text.specs.Words.{is_name, is_number, is_text, closes_text, kind_of}
 use Rattle.frame_grammar.specs.Bodies.{body_of}
-use Rattle.frame_grammar.specs.Table.{choices_of, default_of}
-use Rattle.frame_grammar.specs.Predict.{same_kind}
+use Rattle.grammar_table.specs.Table.{choices_of, default_of}
+use Rattle.grammar_table.specs.Predict.{same_kind}
 use Rattle.grammar_rows.proofs.Walk.{Found, found_in, Says, says}
 
 -- the kind of the token that is spelled so

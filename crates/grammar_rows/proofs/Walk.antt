@@ -8,11 +8,11 @@ use Rattle.frame_grammar.specs.declared.symbols.Symbol.TheVariants as symbol
 use Rattle.frame_grammar.specs.declared.symbols.Event.{Event}
 use Rattle.frame_grammar.specs.Bodies.{body_of}
 use Rattle.frame_grammar.specs.Sentences.{IsStart, IsViable, IsOnlySentence, IsFault}
-use Rattle.frame_grammar.specs.Predict.{predicted, same_kind}
-use Rattle.frame_grammar.specs.Stack.{Between, Takes, Stops}
-use Rattle.frame_grammar.proofs.Checks.{same_kind_true}
-use Rattle.frame_grammar.proofs.Run.{viable}
-use Rattle.frame_grammar.proofs.Steps.{Leads, leads_start, taken, stops_empty, stops_at, goes_on_by, acts, between_start, between_more, finds, fault_at, kinds_differ}
+use Rattle.grammar_table.specs.Predict.{predicted, same_kind}
+use Rattle.grammar_table.specs.Stack.{Between, Takes, Stops}
+use Rattle.grammar_table.proofs.Checks.{same_kind_true}
+use Rattle.grammar_table.proofs.Run.{viable}
+use Rattle.grammar_table.proofs.Steps.{Leads, leads_start, taken, stops_empty, stops_at, goes_on_by, acts, between_start, between_more, finds, fault_at, kinds_differ}
 
 -- What is found along tokens: a sentence of so many of them, with its events; a token at which none goes on; that they
 -- end before a sentence does; or nothing, for want of steps.

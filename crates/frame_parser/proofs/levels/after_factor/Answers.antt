@@ -3,9 +3,9 @@ use Rattle.frame_parser.specs.Operands.{to_come}
 use Rattle.frame_parser.specs.declared.operands.Expected.TheVariants as expected
 use Rattle.frame_parser.specs.declared.operands.Side.TheVariants as side
 use Rattle.frame_parser.specs.Notes.{events_of}
-use Rattle.frame_parser.specs.StackSymbols.{standing, after_term}
+use Rattle.grammar_table.specs.StackSymbols.{standing, after_term}
 use Rattle.frame_parser.proofs.Takings.{told, factor}
-use Rattle.frame_parser.proofs.Stacks.{behind}
+use Rattle.grammar_table.proofs.Stacks.{behind}
 use Rattle.frame_parser.proofs.Expressions.{part_of_factor}
 use Rattle.frame_parser.proofs.levels.after_factor.Goals as goal
 

@@ -3,9 +3,9 @@ use Rattle.frame_parser.specs.Operands.{to_come}
 use Rattle.frame_parser.specs.declared.operands.Expected.TheVariants as expected
 use Rattle.frame_parser.specs.declared.operands.Side.TheVariants as side
 use Rattle.frame_parser.specs.Notes.{events_of}
-use Rattle.frame_parser.specs.StackSymbols.{standing}
+use Rattle.grammar_table.specs.StackSymbols.{standing}
 use Rattle.frame_parser.proofs.Takings.{told, told_going, term, no_term}
-use Rattle.frame_parser.proofs.Stacks.{behind}
+use Rattle.grammar_table.proofs.Stacks.{behind}
 use Rattle.frame_parser.proofs.Expressions.{above_sum, nothing_follows}
 use Rattle.frame_parser.proofs.levels.after_term.Goals as goal
 

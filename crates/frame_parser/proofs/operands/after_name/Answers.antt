@@ -1,9 +1,9 @@
 use Rattle.std.proofs.Common.{map, arith}
 use Rattle.std.proofs.lemmas.List.{length-map}
 use Rattle.frame_parser.specs.Notes.{events_of}
-use Rattle.frame_parser.specs.StackSymbols.{standing}
+use Rattle.grammar_table.specs.StackSymbols.{standing}
 use Rattle.frame_parser.proofs.OperandTakings.{all_on, index_taken, told_on}
-use Rattle.frame_parser.proofs.Stacks.{behind}
+use Rattle.grammar_table.proofs.Stacks.{behind}
 use Rattle.frame_parser.specs.declared.operands.TheConstants.{INDEX, INDEX_NOTES}
 use Rattle.frame_parser.proofs.operands.after_name.Goals as goal
 

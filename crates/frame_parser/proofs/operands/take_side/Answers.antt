@@ -1,12 +1,12 @@
 use Rattle.std.proofs.Common.{◌+◌, ◌++◌, map, Some, sym, ◌∙◌, ap}
 use Rattle.frame_parser.specs.Notes.{events_of}
-use Rattle.frame_parser.specs.StackSymbols.{standing, symbols_of}
+use Rattle.grammar_table.specs.StackSymbols.{standing, symbols_of}
 use Rattle.frame_grammar.specs.declared.symbols.Action.TheVariants as action
-use Rattle.frame_parser.specs.declared.stack_symbol.StackSymbol.TheVariants as waiting
+use Rattle.grammar_table.specs.declared.stack_symbol.StackSymbol.TheVariants as waiting
 use Rattle.frame_parser.specs.declared.operands.Expected.TheVariants as expected
 use Rattle.frame_parser.specs.Operands.{to_come}
 use Rattle.frame_parser.proofs.OperandTakings.{then_ok, one_on, told_on, told_events, name_of_side, number_of_side, index_of_side, some_expected, some_lined}
-use Rattle.frame_parser.proofs.Stacks.{behind}
+use Rattle.grammar_table.proofs.Stacks.{behind}
 use Rattle.frame_parser.proofs.operands.take_side.Goals as goal
 
 pub returns-in_ok-note_both-in-Some-Name : goal.returns-in_ok-note_both-in-Some-Name

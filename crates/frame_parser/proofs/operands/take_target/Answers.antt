@@ -2,12 +2,12 @@ use Rattle.std.proofs.Common.{◌+◌, ◌++◌, map, Some, sym, ◌∙◌, ap, 
 use Rattle.std.proofs.lemmas.List.{length-map}
 use Rattle.frame_parser.specs.Notes.{events_of}
 use Rattle.frame_parser.specs.Operands.{to_come}
-use Rattle.frame_parser.specs.StackSymbols.{standing}
+use Rattle.grammar_table.specs.StackSymbols.{standing}
 use Rattle.frame_parser.specs.declared.operands.TheConstants.{INDEX_ASSIGN, INDEX_NOTES}
 use Rattle.frame_parser.specs.declared.operands.Expected.TheVariants as expected
 use Rattle.frame_parser.specs.declared.operands.Side.TheVariants as side
 use Rattle.frame_parser.proofs.OperandTakings.{then_ok, one_on, all_on, told_on, assign_taken, index_assign_taken, some_expected}
-use Rattle.frame_parser.proofs.Stacks.{behind}
+use Rattle.grammar_table.proofs.Stacks.{behind}
 use Rattle.frame_parser.proofs.operands.take_target.Goals as goal
 
 pub returns-in-Some-Assign : goal.returns-in-Some-Assign

@@ -2,18 +2,18 @@ use Rattle.std.proofs.Common.{◌≡◌, ◌∷◌, [], ◌++◌, ◌∙◌, ref
 use Rattle.std.proofs.lemmas.List.{append-nil, map-append}
 use Rattle.std.proofs.lemmas.Bool.{MatchBool-at_true, MatchBool-at_false}
 use Rattle.std.proofs.lemmas.Option.{MatchOption-at_none, MatchOption-at_some}
-use Rattle.frame_parser.specs.StackSymbols.{standing, symbols_of}
+use Rattle.grammar_table.specs.StackSymbols.{standing, symbols_of}
 use Rattle.frame_parser.specs.Notes.{event_of, events_of}
 use Rattle.frame_parser.specs.Operands.{to_come}
 use Rattle.frame_grammar.specs.Bodies.{body_of}
 use Rattle.frame_parser.specs.Parser.{IsStep}
-use Rattle.frame_grammar.specs.Stack.{Takes}
+use Rattle.grammar_table.specs.Stack.{Takes}
 use Rattle.frame_parser.specs.Values.{in_values}
 use Rattle.frame_parser.proofs.Takings.{leads_take, leads_go, part_takes, part_goes, line_taken_before, past_lines}
-use Rattle.frame_grammar.proofs.Steps.{Leads, taken, stops_empty, goes_on_by, acts, stops_at, smaller, kinds_same, kinds_differ}
-use Rattle.frame_parser.proofs.Stacks.{top, top_is, no_top, body_on_top, behind}
+use Rattle.grammar_table.proofs.Steps.{Leads, taken, stops_empty, goes_on_by, acts, stops_at, smaller, kinds_same, kinds_differ}
+use Rattle.grammar_table.proofs.Stacks.{top, top_is, no_top, body_on_top, behind}
 use Rattle.frame_grammar.specs.declared.symbols.Symbol.TheVariants as symbol
-use Rattle.frame_parser.specs.declared.stack_symbol.StackSymbol.TheVariants as waiting
+use Rattle.grammar_table.specs.declared.stack_symbol.StackSymbol.TheVariants as waiting
 use Rattle.frame_parser.proofs.parser.advance.Goals as goal
 
 pub returns-then-takes_line : goal.returns-then-takes_line

@@ -1,7 +1,7 @@
-use Rattle.frame_parser.specs.StackSymbols.{standing}
+use Rattle.grammar_table.specs.StackSymbols.{standing}
 use Rattle.frame_parser.specs.Notes.{events_of}
-use Rattle.frame_grammar.specs.Stack.{weight}
-use Rattle.frame_grammar.proofs.Steps.{Leads}
+use Rattle.grammar_table.specs.Stack.{weight}
+use Rattle.grammar_table.proofs.Steps.{Leads}
 use Rattle.frame_parser.proofs.parser.advance.Given as goal
 
 abbrev pub invariant-loop-next : goal.invariant-loop-next

@@ -1,14 +1,14 @@
 use Rattle.std.proofs.Common.{◌≡◌, ◌≤◌, ◌-◌, Some, slice_get, take, ◌∷◌, [], ◌++◌, length, map, subst, subst₂, sym, ◌∙◌, ap, arith}
 use Rattle.std.proofs.lemmas.List.{length-map}
 use Rattle.std.proofs.lemmas.Option.{MatchOption-at_none, MatchOption-at_some}
-use Rattle.frame_parser.specs.StackSymbols.{standing}
+use Rattle.grammar_table.specs.StackSymbols.{standing}
 use Rattle.frame_parser.specs.Notes.{events_of}
-use Rattle.frame_parser.specs.declared.stack_symbol.StackSymbol.TheVariants as waiting
+use Rattle.grammar_table.specs.declared.stack_symbol.StackSymbol.TheVariants as waiting
 use Rattle.frame_grammar.specs.declared.symbols.Nonterminal.TheVariants.{Items}
 use Rattle.frame_grammar.specs.Sentences.{IsFault}
-use Rattle.frame_grammar.specs.Stack.{Between}
-use Rattle.frame_grammar.proofs.Steps.{between_start, never_left}
-use Rattle.frame_parser.proofs.Stacks.{last_on_top, empty_stack, full_stack}
+use Rattle.grammar_table.specs.Stack.{Between}
+use Rattle.grammar_table.proofs.Steps.{between_start, never_left}
+use Rattle.grammar_table.proofs.Stacks.{last_on_top, empty_stack, full_stack}
 use Rattle.frame_parser.proofs.parser.parse.Goals as goal
 
 pub loop-place-init : goal.loop-place-init

@@ -1,7 +1,7 @@
 use Rattle.std.proofs.Common.{◌-◌, length, map}
-use Rattle.frame_parser.specs.StackSymbols.{standing}
+use Rattle.grammar_table.specs.StackSymbols.{standing}
 use Rattle.frame_parser.specs.Notes.{events_of}
-use Rattle.frame_grammar.specs.Stack.{Between}
+use Rattle.grammar_table.specs.Stack.{Between}
 use Rattle.frame_parser.proofs.parser.parse.Given as goal
 
 abbrev pub invariant-loop-place : goal.invariant-loop-place

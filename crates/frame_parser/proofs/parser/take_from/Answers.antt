@@ -1,6 +1,6 @@
 use Rattle.std.proofs.Common.{◌<◌, length, map, sym, ◌∙◌, ap, subst, arith}
 use Rattle.std.proofs.lemmas.List.{get_or-map, length-map}
-use Rattle.frame_parser.specs.StackSymbols.{standing}
+use Rattle.grammar_table.specs.StackSymbols.{standing}
 use Rattle.frame_parser.specs.Notes.{events_of}
 use Rattle.frame_parser.specs.Values.{IsTaken}
 use Rattle.frame_parser.proofs.OperandTakings.{expected_from}

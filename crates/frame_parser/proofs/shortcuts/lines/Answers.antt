@@ -1,8 +1,8 @@
 use Rattle.std.proofs.Common.{sym, ◌∙◌, refl}
-use Rattle.frame_parser.specs.StackSymbols.{standing}
-use Rattle.frame_grammar.proofs.Steps.{kinds_same}
+use Rattle.grammar_table.specs.StackSymbols.{standing}
+use Rattle.grammar_table.proofs.Steps.{kinds_same}
 use Rattle.frame_parser.proofs.Takings.{told, line_end, no_line_end}
-use Rattle.frame_parser.proofs.Stacks.{behind}
+use Rattle.grammar_table.proofs.Stacks.{behind}
 use Rattle.frame_parser.proofs.shortcuts.lines.Goals as goal
 
 pub returns-in_ok-put : goal.returns-in_ok-put

@@ -1,7 +1,7 @@
-use Rattle.frame_parser.specs.StackSymbols.{standing}
+use Rattle.grammar_table.specs.StackSymbols.{standing}
 use Rattle.frame_parser.specs.Notes.{events_of}
 use Rattle.frame_parser.proofs.Takings.{told, value, negative}
-use Rattle.frame_parser.proofs.Stacks.{behind}
+use Rattle.grammar_table.proofs.Stacks.{behind}
 use Rattle.frame_parser.proofs.shortcuts.more_values.Goals as goal
 
 pub returns-in_ok-put-in-Number : goal.returns-in_ok-put-in-Number

@@ -2,10 +2,10 @@ use Rattle.std.proofs.Common.{◌++◌, refl, ap}
 use Rattle.frame_parser.specs.Operands.{to_come}
 use Rattle.frame_parser.specs.declared.operands.Expected.TheVariants as expected
 use Rattle.frame_parser.specs.declared.operands.Side.TheVariants as side
-use Rattle.frame_parser.specs.StackSymbols.{standing}
+use Rattle.grammar_table.specs.StackSymbols.{standing}
 use Rattle.frame_parser.specs.Notes.{events_of}
 use Rattle.frame_parser.proofs.Takings.{both, told, name, number, index, parens}
-use Rattle.frame_parser.proofs.Stacks.{behind}
+use Rattle.grammar_table.proofs.Stacks.{behind}
 use Rattle.frame_parser.proofs.shortcuts.operand.Goals as goal
 
 pub returns-in_ok-note_both-in-Name : goal.returns-in_ok-note_both-in-Name

@@ -2,11 +2,11 @@ use Rattle.std.proofs.Common.{◌++◌, sym, ◌∙◌, refl, ap}
 use Rattle.frame_parser.specs.Operands.{to_come}
 use Rattle.frame_parser.specs.declared.operands.Expected.TheVariants as expected
 use Rattle.frame_parser.specs.declared.operands.Side.TheVariants as side
-use Rattle.frame_parser.specs.StackSymbols.{standing}
+use Rattle.grammar_table.specs.StackSymbols.{standing}
 use Rattle.frame_parser.specs.Notes.{events_of}
-use Rattle.frame_grammar.proofs.Steps.{kinds_same}
+use Rattle.grammar_table.proofs.Steps.{kinds_same}
 use Rattle.frame_parser.proofs.Takings.{told, told_going, bracket, no_bracket}
-use Rattle.frame_parser.proofs.Stacks.{behind}
+use Rattle.grammar_table.proofs.Stacks.{behind}
 use Rattle.frame_parser.proofs.shortcuts.place_of_name.Goals as goal
 
 pub returns-in_ok-put : goal.returns-in_ok-put

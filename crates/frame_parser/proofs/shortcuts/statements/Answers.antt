@@ -1,10 +1,10 @@
 use Rattle.std.proofs.Common.{◌++◌, ap}
 use Rattle.frame_parser.specs.Operands.{to_come}
 use Rattle.frame_parser.specs.declared.operands.Expected.TheVariants as expected
-use Rattle.frame_parser.specs.StackSymbols.{standing}
+use Rattle.grammar_table.specs.StackSymbols.{standing}
 use Rattle.frame_parser.specs.Notes.{events_of}
 use Rattle.frame_parser.proofs.Takings.{both, told, assignment}
-use Rattle.frame_parser.proofs.Stacks.{behind}
+use Rattle.grammar_table.proofs.Stacks.{behind}
 use Rattle.frame_parser.proofs.shortcuts.statements.Goals as goal
 
 pub returns-in_ok-put-in-Name : goal.returns-in_ok-put-in-Name

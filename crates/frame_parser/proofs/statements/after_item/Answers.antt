@@ -1,8 +1,8 @@
 use Rattle.std.proofs.Common.{sym, ◌∙◌, refl}
-use Rattle.frame_parser.specs.StackSymbols.{standing}
-use Rattle.frame_grammar.proofs.Steps.{kinds_same}
+use Rattle.grammar_table.specs.StackSymbols.{standing}
+use Rattle.grammar_table.proofs.Steps.{kinds_same}
 use Rattle.frame_parser.proofs.Takings.{told}
-use Rattle.frame_parser.proofs.Stacks.{behind}
+use Rattle.grammar_table.proofs.Stacks.{behind}
 use Rattle.frame_parser.proofs.StatementTakings.{line_after_item, no_item}
 use Rattle.frame_parser.proofs.statements.after_item.Goals as goal
 

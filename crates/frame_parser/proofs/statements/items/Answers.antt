@@ -1,12 +1,12 @@
 use Rattle.std.proofs.Common.{drop, ◌++◌, ◌∷◌, [], ◌∙◌, ap, subst, sym}
-use Rattle.frame_parser.specs.StackSymbols.{standing}
+use Rattle.grammar_table.specs.StackSymbols.{standing}
 use Rattle.frame_grammar.specs.declared.symbols.Nonterminal.TheVariants as nonterminal
 use Rattle.frame_grammar.specs.declared.symbols.Symbol.TheVariants as symbol
-use Rattle.frame_parser.specs.declared.stack_symbol.StackSymbol.TheVariants as waiting
-use Rattle.frame_grammar.specs.Stack.{Takes}
+use Rattle.grammar_table.specs.declared.stack_symbol.StackSymbol.TheVariants as waiting
+use Rattle.grammar_table.specs.Stack.{Takes}
 use Rattle.frame_grammar.specs.Bodies.{body_of}
 use Rattle.frame_parser.specs.Notes.{events_of}
-use Rattle.frame_parser.proofs.Stacks.{behind}
+use Rattle.grammar_table.proofs.Stacks.{behind}
 use Rattle.frame_parser.proofs.StatementTakings.{statement_begins, item_taken}
 use Rattle.frame_parser.proofs.statements.items.Goals as goal
 

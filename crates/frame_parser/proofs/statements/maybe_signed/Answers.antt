@@ -1,7 +1,7 @@
-use Rattle.frame_parser.specs.StackSymbols.{standing}
+use Rattle.grammar_table.specs.StackSymbols.{standing}
 use Rattle.frame_parser.specs.Notes.{events_of}
 use Rattle.frame_parser.proofs.Takings.{told}
-use Rattle.frame_parser.proofs.Stacks.{behind}
+use Rattle.grammar_table.proofs.Stacks.{behind}
 use Rattle.frame_parser.proofs.StatementTakings.{maybe_plain}
 use Rattle.frame_parser.proofs.statements.maybe_signed.Goals as goal
 

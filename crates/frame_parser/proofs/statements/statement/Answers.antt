@@ -1,5 +1,5 @@
 use Rattle.std.proofs.Common.{drop}
-use Rattle.frame_parser.specs.StackSymbols.{standing}
+use Rattle.grammar_table.specs.StackSymbols.{standing}
 use Rattle.frame_grammar.specs.Bodies.{body_of}
 use Rattle.frame_parser.proofs.StatementTakings.{statement_begins, statement_taken}
 use Rattle.frame_parser.proofs.statements.statement.Goals as goal

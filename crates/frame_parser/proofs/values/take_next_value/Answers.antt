@@ -1,11 +1,11 @@
 use Rattle.std.proofs.Common.{◌≡◌, [], ◌∷◌, ◌-◌, IfSome, length, take, sym, ◌∙◌, subst}
 use Rattle.frame_parser.specs.Notes.{events_of}
-use Rattle.frame_parser.specs.StackSymbols.{standing}
+use Rattle.grammar_table.specs.StackSymbols.{standing}
 use Rattle.frame_grammar.specs.declared.symbols.Nonterminal.TheVariants.{MoreValues}
 use Rattle.frame_grammar.specs.declared.symbols.Symbol.TheVariants as symbol
 use Rattle.frame_parser.specs.Values.{rest_of}
-use Rattle.frame_parser.specs.declared.stack_symbol.StackSymbol.TheVariants as waiting
-use Rattle.frame_parser.proofs.Stacks.{last_on_top}
+use Rattle.grammar_table.specs.declared.stack_symbol.StackSymbol.TheVariants as waiting
+use Rattle.grammar_table.proofs.Stacks.{last_on_top}
 use Rattle.frame_parser.proofs.ValueTakings.{next_taken, values_wait}
 use Rattle.frame_parser.proofs.values.take_next_value.Goals as goal
 

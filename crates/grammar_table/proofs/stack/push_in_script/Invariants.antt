@@ -1,6 +1,6 @@
 use Rattle.std.proofs.Common.{◌≡◌, ◌≤◌, ◌+◌, ◌++◌, length, map, reverse}
-use Rattle.frame_parser.specs.StackSymbols.{alone}
-use Rattle.frame_parser.proofs.stack.push_in_script.Given as goal
+use Rattle.grammar_table.specs.StackSymbols.{alone}
+use Rattle.grammar_table.proofs.stack.push_in_script.Given as goal
 
 abbrev pub invariant-loop-symbol : goal.invariant-loop-symbol
 invariant-loop-symbol l = record {

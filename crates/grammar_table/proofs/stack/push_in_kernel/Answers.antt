@@ -1,6 +1,6 @@
 use Rattle.std.proofs.Common.{true}
-use Rattle.frame_parser.proofs.Stacks.{pushed}
-use Rattle.frame_parser.proofs.stack.push_in_kernel.Goals as goal
+use Rattle.grammar_table.proofs.Stacks.{pushed}
+use Rattle.grammar_table.proofs.stack.push_in_kernel.Goals as goal
 
 pub loop-symbol-preserved : goal.loop-symbol-preserved
 loop-symbol-preserved c =

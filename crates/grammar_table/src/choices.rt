@@ -1,7 +1,6 @@
 //! Before which token a nonterminal goes on by which production.
 
-use crate::TokenKind as K;
-use crate::symbols::Production as P;
+use frame_grammar::{Production as P, TokenKind as K};
 
 pub const ITEMS: [(K, P); 27] = [
     (K::Line, P::ItemsLine),

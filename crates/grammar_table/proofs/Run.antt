@@ -10,13 +10,14 @@ use Rattle.frame_grammar.specs.declared.symbols.Event.{Event}
 use Rattle.frame_grammar.specs.declared.symbols.Production.{Production}
 use Rattle.frame_grammar.specs.Grammar.{head_of, Derives, nothing, terminal, action, expanded}
 use Rattle.frame_grammar.specs.Bodies.{body_of}
-use Rattle.frame_grammar.specs.Table.{default_of}
-use Rattle.frame_grammar.specs.Sets.{firsts_of, is_nullable_of, barred_of}
+use Rattle.grammar_table.specs.Table.{default_of}
+use Rattle.grammar_table.specs.Sets.{firsts_of, is_nullable_of, barred_of}
 use Rattle.frame_grammar.specs.Sentences.{IsSentence, IsViable}
-use Rattle.frame_grammar.specs.Predict.{predicted}
-use Rattle.frame_grammar.specs.Stack.{Starts, IsClear, IsReached, IsReachedAt, first_of, has_kind}
-use Rattle.frame_grammar.proofs.Theory.{Starts-append, IsClear-append}
-use Rattle.frame_grammar.proofs.Checks.{begins, begins_first, ends, ends_nullable, fine, own, follows, spelled}
+use Rattle.grammar_table.specs.Predict.{predicted}
+use Rattle.grammar_table.specs.Stack.{Starts, IsClear, IsReached, IsReachedAt, first_of, has_kind}
+use Rattle.frame_grammar.proofs.Theory.{goes_on}
+use Rattle.grammar_table.proofs.Fronts.{Starts-append, IsClear-append}
+use Rattle.grammar_table.proofs.Checks.{begins, begins_first, ends, ends_nullable, fine, own, follows, spelled}
 
 -- What derives tokens begins with the first of them.
 starts_expanded : (p : Production) (n : Nonterminal) (ss : List Symbol) (k : TokenKind) → head_of p ≡ n → Starts (body_of p ++ ss) k
@@ -33,16 +34,6 @@ Starts-first k js nothing e = cc
 Starts-first k js (terminal j d) e = cc
 Starts-first k js (action a d) e = Starts-first k js d e
 Starts-first k js (expanded {ss = ss} p {head = n} h d) e = starts_expanded p n ss k h (Starts-first k js d e)
-
--- A nonterminal before tokens: the production it goes on by.
-pub record GoesOn (place : ℕ) (n : Nonterminal) (es : List Event) (ss : List Symbol) (ks : List TokenKind) : Type 0 where
-  pub production : Production
-  pub own : head_of production ≡ n
-  pub derives : Derives place es (body_of production ++ ss) ks
-
-pub goes_on : {place : ℕ} {es : List Event} {n : Nonterminal} {ss : List Symbol} {ks : List TokenKind} → Derives place es (symbol.Nonterminal n ∷ ss) ks
-    → GoesOn place n es ss ks
-goes_on (expanded p h d) = record { production = p; own = h; derives = d }
 
 pub terminal_first : {n : ℕ} {es : List Event} {j : TokenKind} {ss : List Symbol} {ks : List TokenKind} → Derives n es (symbol.Terminal j ∷ ss) ks →
     (js : List TokenKind) × (ks ≡ j ∷ js) × Derives (suc n) es ss js

@@ -6,9 +6,9 @@ use Rattle.frame_grammar.specs.declared.symbols.Symbol.{Symbol}
 use Rattle.frame_grammar.specs.declared.symbols.Symbol.TheVariants as symbol
 use Rattle.frame_grammar.specs.declared.symbols.Event.{Event}
 use Rattle.frame_grammar.specs.Grammar.{Derives}
-use Rattle.frame_grammar.specs.Sets.{firsts_of, is_nullable_of, barred_of, is_closed_of, rank_of}
+use Rattle.grammar_table.specs.Sets.{firsts_of, is_nullable_of, barred_of, is_closed_of, rank_of}
 use Rattle.frame_grammar.specs.Sentences.{IsSentence}
-use Rattle.frame_grammar.specs.Predict.{same_kind}
+use Rattle.grammar_table.specs.Predict.{same_kind}
 
 -- whether the token is among these
 abbrev pub has_kind : List TokenKind → TokenKind → Bool

@@ -4,7 +4,7 @@ use Rattle.frame_grammar.specs.declared.token_kind.TokenKind.{TokenKind}
 use Rattle.frame_grammar.specs.declared.symbols.Nonterminal.{Nonterminal}
 use Rattle.frame_grammar.specs.declared.symbols.Production.{Production}
 use Rattle.frame_grammar.specs.contracts.token_kind.TokenKind.{the_type}
-use Rattle.frame_grammar.specs.Table.{choices_of, default_of}
+use Rattle.grammar_table.specs.Table.{choices_of, default_of}
 use denote.Enum.Bare.{sameb}
 
 unfoldable pub same_kind : TokenKind → TokenKind → Bool

@@ -1,6 +1,6 @@
 use Rattle.std.proofs.Common.{◌∙◌, sym}
-use Rattle.frame_grammar.proofs.Steps.{found-here, found-later}
-use Rattle.frame_grammar.proofs.prediction.choice.Goals as goal
+use Rattle.grammar_table.proofs.Steps.{found-here, found-later}
+use Rattle.grammar_table.proofs.prediction.choice.Goals as goal
 
 pub returns-then-eq : goal.returns-then-eq
 returns-then-eq c =

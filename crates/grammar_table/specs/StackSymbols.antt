@@ -5,8 +5,8 @@ use Rattle.frame_grammar.specs.declared.token_kind.TokenKind.TheVariants.{Line}
 use Rattle.frame_grammar.specs.declared.symbols.Nonterminal.TheVariants.{Lines, MoreTerm, MoreSum, Compared, MoreAnd, MoreOr}
 use Rattle.frame_grammar.specs.declared.symbols.Symbol.{Symbol}
 use Rattle.frame_grammar.specs.declared.symbols.Symbol.TheVariants as symbol
-use Rattle.frame_parser.specs.declared.stack_symbol.StackSymbol.{StackSymbol}
-use Rattle.frame_parser.specs.declared.stack_symbol.StackSymbol.TheVariants as waiting
+use Rattle.grammar_table.specs.declared.stack_symbol.StackSymbol.{StackSymbol}
+use Rattle.grammar_table.specs.declared.stack_symbol.StackSymbol.TheVariants as waiting
 
 -- what may follow a term, at each level of an expression
 abbrev pub after_term : List Symbol

@@ -8,10 +8,10 @@ use Rattle.frame_grammar.specs.declared.symbols.Nonterminal.TheVariants.{Lines}
 use Rattle.frame_grammar.specs.declared.symbols.Symbol.{Symbol}
 use Rattle.frame_grammar.specs.declared.symbols.Symbol.TheVariants as symbol
 use Rattle.frame_grammar.specs.declared.symbols.Production.{Production}
-use Rattle.frame_parser.specs.declared.stack_symbol.StackSymbol.{StackSymbol}
-use Rattle.frame_parser.specs.declared.stack_symbol.StackSymbol.TheVariants as waiting
+use Rattle.grammar_table.specs.declared.stack_symbol.StackSymbol.{StackSymbol}
+use Rattle.grammar_table.specs.declared.stack_symbol.StackSymbol.TheVariants as waiting
 use Rattle.frame_grammar.specs.Bodies.{written, body_of}
-use Rattle.frame_parser.specs.StackSymbols.{symbols_of, alone, all_symbols, standing}
+use Rattle.grammar_table.specs.StackSymbols.{symbols_of, alone, all_symbols, standing}
 
 all_symbols-append : (a b : List StackSymbol) → all_symbols (a ++ b) ≡ all_symbols a ++ all_symbols b
 all_symbols-append [] b = refl

@@ -1,11 +1,10 @@
 //! By which production a nonterminal goes on before a token.
 
 ghost use Rattle.std.specs.Prelude.{◌≡◌};
-ghost use Rattle.frame_grammar.specs.Predict.{found, predicted};
+ghost use Rattle.grammar_table.specs.Predict.{found, predicted};
 
-use crate::TokenKind;
-use crate::symbols::{Nonterminal, Production};
 use crate::table::{choices, default_production};
+use frame_grammar::{Nonterminal, Production, TokenKind};
 
 fn choice(choices: &[(TokenKind, Production)], kind: TokenKind) -> Option<Production>
     ensures { result ≡ found choices.now kind }

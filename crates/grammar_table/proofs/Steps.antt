@@ -14,14 +14,15 @@ use Rattle.frame_grammar.specs.declared.symbols.Symbol.TheVariants as symbol
 use Rattle.frame_grammar.specs.declared.symbols.Event.{Event}
 use Rattle.frame_grammar.specs.declared.symbols.Production.{Production}
 use Rattle.frame_grammar.specs.Bodies.{body_of}
-use Rattle.frame_grammar.specs.Sets.{is_nullable_of, rank_of}
+use Rattle.grammar_table.specs.Sets.{is_nullable_of, rank_of}
 use Rattle.frame_grammar.specs.Sentences.{IsStart, IsSentence, IsViable, IsFault, IsOnlySentence, IsEnded}
-use Rattle.frame_grammar.specs.Predict.{found, predicted, same_kind}
-use Rattle.frame_grammar.specs.Stack.{Between, weight, weight_after, closes, IsReached, IsReachedAt, Takes, Stops}
-use Rattle.frame_grammar.proofs.Theory.{weight-append, nullable, nullable-from}
-use Rattle.frame_grammar.proofs.Checks.{spelled, ends_nullable, lower, own}
-use Rattle.frame_grammar.proofs.Run.{expand, act, shift, viable, finished, only_here, refuses, stuck_empty, stuck_terminal, stuck_nonterminal, reached_start, reached_at}
-use Rattle.frame_grammar.proofs.Ends.{closes-expanded, closes-action, closes-terminal, derives_some, start_closes, end_is_last}
+use Rattle.grammar_table.specs.Predict.{found, predicted, same_kind}
+use Rattle.grammar_table.specs.Stack.{Between, weight, weight_after, closes, IsReached, IsReachedAt, Takes, Stops}
+use Rattle.grammar_table.proofs.Fronts.{weight-append, nullable, nullable-from}
+use Rattle.grammar_table.proofs.Checks.{spelled, ends_nullable, lower, own}
+use Rattle.grammar_table.proofs.Run.{expand, act, shift, viable, finished, only_here, refuses, stuck_empty, stuck_terminal, stuck_nonterminal, reached_start, reached_at}
+use Rattle.frame_grammar.proofs.Ends.{end_is_last}
+use Rattle.grammar_table.proofs.Closes.{closes-expanded, closes-action, closes-terminal, derives_some, start_closes}
 
 pub found-here : (xs : List (TokenKind × Production)) (i : ℕ) (d : TokenKind × Production) (k : TokenKind) → i < length xs
     → sameb the_type (get_or xs i d).0 k ≡ true →

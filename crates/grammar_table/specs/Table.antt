@@ -5,7 +5,7 @@ use Rattle.frame_grammar.specs.declared.symbols.Nonterminal.{Nonterminal}
 use Rattle.frame_grammar.specs.declared.symbols.Nonterminal.TheVariants as nonterminal
 use Rattle.frame_grammar.specs.declared.symbols.Production.{Production}
 use Rattle.frame_grammar.specs.declared.symbols.Production.TheVariants as production
-use Rattle.frame_grammar.specs.declared.choices.TheConstants.{ITEMS, AFTER_ITEM, LINES, OPEN_KERNEL, PARAMETERS, MORE_PARAMETERS, PARAMETER_KIND, CONTAINER, WIDTH, STATEMENTS, KERNEL_STATEMENT, TARGET, VALUE, ADDED_VALUE, ELSE_PART, MORE_OR, MORE_AND, COMPARED, MORE_SUM, MORE_TERM, UNARY, ATOM, PLACE, STATEMENT, LIFE, SIGNED, MAYBE_SIGNED, ARRAY_VALUES, MORE_VALUES, REFERENCE_VALUE, ARGUMENTS, MORE_ARGUMENTS, ARGUMENT, AUTO, SIZES, WAIVED, AFTER_NAMES, NAMES, DISPOSAL, DISPOSED_AFTER, TEST, LINED}
+use Rattle.grammar_table.specs.declared.choices.TheConstants.{ITEMS, AFTER_ITEM, LINES, OPEN_KERNEL, PARAMETERS, MORE_PARAMETERS, PARAMETER_KIND, CONTAINER, WIDTH, STATEMENTS, KERNEL_STATEMENT, TARGET, VALUE, ADDED_VALUE, ELSE_PART, MORE_OR, MORE_AND, COMPARED, MORE_SUM, MORE_TERM, UNARY, ATOM, PLACE, STATEMENT, LIFE, SIGNED, MAYBE_SIGNED, ARRAY_VALUES, MORE_VALUES, REFERENCE_VALUE, ARGUMENTS, MORE_ARGUMENTS, ARGUMENT, AUTO, SIZES, WAIVED, AFTER_NAMES, NAMES, DISPOSAL, DISPOSED_AFTER, TEST, LINED}
 
 -- the productions of a nonterminal that begin with certain tokens, each with its first tokens
 unfoldable pub choices_of : Nonterminal → List (TokenKind × Production)

@@ -17,12 +17,13 @@ use Rattle.frame_grammar.specs.declared.symbols.Production.{Production}
 use Rattle.frame_grammar.specs.declared.symbols.Production.TheVariants as production
 use Rattle.frame_grammar.specs.Grammar.{head_of, Derives, nothing, terminal, action, expanded}
 use Rattle.frame_grammar.specs.Bodies.{body_of}
-use Rattle.frame_grammar.specs.Table.{choices_of, default_of}
-use Rattle.frame_grammar.specs.Predict.{found, or_else, predicted, same_kind}
-use Rattle.frame_grammar.specs.Sets.{firsts_of, is_nullable_of, barred_of, rank_of}
-use Rattle.frame_grammar.specs.Stack.{weight, Starts, has_kind}
-use Rattle.frame_grammar.proofs.Shortest.{short_of, height_of}
-use Rattle.frame_grammar.proofs.Theory.{IsNullable, IsFine, nullable, nullable-to, Derives-append, and_left, and_right, both}
+use Rattle.grammar_table.specs.Table.{choices_of, default_of}
+use Rattle.grammar_table.specs.Predict.{found, or_else, predicted, same_kind}
+use Rattle.grammar_table.specs.Sets.{firsts_of, is_nullable_of, barred_of, rank_of}
+use Rattle.grammar_table.specs.Stack.{weight, Starts, has_kind}
+use Rattle.grammar_table.proofs.Shortest.{short_of, height_of}
+use Rattle.frame_grammar.proofs.Theory.{Derives-append, and_left, and_right, both}
+use Rattle.grammar_table.proofs.Fronts.{IsNullable, IsFine, nullable, nullable-to}
 use Rattle.std.proofs.lemmas.List.{append-nil}
 
 pub same_kind_true : (j k : TokenKind) → same_kind j k ≡ true → j ≡ k

@@ -1,6 +1,6 @@
 use Rattle.std.proofs.Common.{sym}
-use Rattle.frame_parser.proofs.Stacks.{popped}
-use Rattle.frame_parser.proofs.stack.push_rest.Goals as goal
+use Rattle.grammar_table.proofs.Stacks.{popped}
+use Rattle.grammar_table.proofs.stack.push_rest.Goals as goal
 
 pub returns : goal.returns
 returns c first rest is =

@@ -1,7 +1,7 @@
 use Rattle.std.proofs.Common.{◌≡◌, ◌++◌, true, map, reverse}
 use Rattle.frame_grammar.specs.Bodies.{written}
-use Rattle.frame_parser.specs.StackSymbols.{alone}
-use Rattle.frame_parser.proofs.stack.push_in_kernel.Given as goal
+use Rattle.grammar_table.specs.StackSymbols.{alone}
+use Rattle.grammar_table.proofs.stack.push_in_kernel.Given as goal
 
 abbrev pub invariant-loop-symbol : goal.invariant-loop-symbol
 invariant-loop-symbol l =

@@ -1,7 +1,7 @@
 //! What waits on the parser's stack.
 
 ghost use Rattle.std.specs.Prelude.{◌≡◌};
-ghost use Rattle.frame_parser.specs.StackSymbols.{alone, is_lined, ends_line, takes_line};
+ghost use Rattle.grammar_table.specs.StackSymbols.{alone, is_lined, ends_line, takes_line};
 
 use frame_grammar::{Action, Nonterminal, Symbol, TokenKind};
 
