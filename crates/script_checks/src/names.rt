@@ -80,8 +80,8 @@ const MOST_BUCKETS: usize = 262_144;
 /// The names that are known, each with what it stands for. A name's place is its number among them.
 ///
 /// They stand in buckets by their hashes. Most are the first of their bucket, and a look-up of one compares its bytes
-/// once. The others are found by another part of their hashes. An enemy can make names of one hash: all but the first two
-/// of them are found in a tree, so no look-up takes more comparisons than that is deep.
+/// once. The others are found by another part of their hashes. An enemy can make names of one hash: all but the first
+/// two of them are found in a tree, so no look-up takes more comparisons than that is deep.
 #[derive(Drop)]
 pub struct Names<'a> {
     /// The place of the first name of each bucket.

@@ -15,7 +15,8 @@ use Rattle.text_places.specs.Places.{bucket_of, first_of, first_for, other_of, p
 -- BUCKETS
 
 -- the first text of a bucket, after one is the first of its bucket
-first_set : (firsts : List (Option Placed)) (b c : ℕ) (x : Option Placed) → b < length firsts → first_of (set firsts b x) c ≡ cond (b == c) x (first_of firsts c)
+first_set : (firsts : List (Option Placed)) (b c : ℕ) (x : Option Placed) → b < length firsts
+    → first_of (set firsts b x) c ≡ cond (b == c) x (first_of firsts c)
 first_set firsts b c x within = elim (cases_eq b c) [
   | inl same ↦ ap (first_of (set firsts b x)) (sym same) ∙ (get_or-set_same firsts b x None within
       ∙ sym (ap (λ t. cond t x (first_of firsts c)) (eq-eqb b c same)))
@@ -91,7 +92,8 @@ module _ (firsts : List (Option Placed)) (old new : BTreeMap (Bor (List ℕ)) �
       let is : text ≡ q = (bytes_eq-Decides text q).0 s in
       let here : first_for firsts q ≡ Some first = subst (λ t. first_for firsts t ≡ Some first) is used in
       let other : bytes_eq first.text.now text ≡ false =
-      not_here (bytes_eq first.text.now text) first.place (other_of old.entries text) (ap (λ o. place_by o (other_of old.entries text) text) (sym used) ∙ absent) in
+      not_here (bytes_eq first.text.now text) first.place (other_of old.entries text)
+      (ap (λ o. place_by o (other_of old.entries text) text) (sym used) ∙ absent) in
       ap (λ o. place_by o (other_of new.entries q) q) here
       ∙ ap (λ t. cond t (Some first.place) (other_of new.entries q)) (subst (λ t. bytes_eq first.text.now t ≡ false) is other))
 

@@ -16,6 +16,7 @@ pub returns : goal.returns
 returns c =
     let found : first_for c.self.inside.firsts.items c.args.text.now ≡ Some c.in_ok-first.first = search rules in
     let other : bytes_eq c.index.result.now.text.now c.args.text.now ≡ false = search rules in
-    c.get.ensures ∙ sym (found_other c.self.inside.firsts.items c.self.inside.others c.self.inside.entries.items c.args.self.now c.args.text.now c.in_ok-first.first
+    c.get.ensures ∙ sym (found_other c.self.inside.firsts.items c.self.inside.others
+    c.self.inside.entries.items c.args.self.now c.args.text.now c.in_ok-first.first
     c.index.result.now
     c.self.view_is c.self.invariant found c.index.ensures other)
