@@ -8,6 +8,9 @@ use std::alloc::Global;
 use std::io::Read;
 use std::{fs, rt};
 
+// As many bytes are asked of a file at once.
+const PART_BYTES: usize = 4_096;
+
 /// Real files, by their paths. Their bytes are the system's, so nothing is said of them.
 #[derive(Drop)]
 pub struct DiskFiles<'a, R: rt::Files> {
@@ -67,8 +70,8 @@ fn read_all<R: rt::Files>(
     }
 }
 
-// All the bytes that a reader has left, read part by part until there are none. The contract speaks of readers that
-// tell their bytes, as a file of the disk doesn't.
+// All the bytes that a reader has left, read part by part until there are none. The contract speaks of readers
+// whose bytes are known, as those of a file of the disk aren't.
 fn read_parts<F: Read>(alloc: Global, file: &mut F, limit: u64) -> Result<Vec<u8>, FileFault>
     ensures bytes { IfOk result (λ v. IfSome (F.remaining file.old) (λ bytes. v.items ≡ bytes)) }
     ensures within { IfOk result (λ v. vec_len v ≤ limit) }
@@ -76,7 +79,7 @@ fn read_parts<F: Read>(alloc: Global, file: &mut F, limit: u64) -> Result<Vec<u8
         → IfSome (F.remaining file.old) (λ bytes. limit < length bytes) }
 {
     let mut bytes = Vec::new(alloc);
-    let mut part = [0u8; 4096];
+    let mut part = [0u8; PART_BYTES];
     for _ in 0..u64::MAX {
         let Ok(count) = file.read(&mut part) else {
             return Err(FileFault::Failed);

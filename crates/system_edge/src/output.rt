@@ -7,8 +7,8 @@ ghost use Rattle.std.specs.Io.KnownBytes.{WriteAppends};
 use job_base::{Sink, SinkFault};
 use std::io::Write;
 
-/// What a writer takes. Writers that tell their bytes make a sink that tells them; standard output and standard error
-/// tell nothing.
+/// What a writer takes. A writer whose bytes are known makes a sink whose bytes are known; those of standard output and
+/// standard error aren't.
 #[derive(Drop)]
 pub struct WriterSink<W> {
     writer: W,
@@ -47,6 +47,6 @@ fn write_some<W: Write>(out: &mut W, bytes: &[u8]) -> Result<usize, SinkFault>
 {
     match out.write(bytes) {
         Ok(count) if count > 0 => Ok(count),
-        _ => Err(SinkFault),
+        Ok(_) | Err(_) => Err(SinkFault),
     }
 }
