@@ -68,7 +68,7 @@ pub fn begin(
 }
 
 // The next section of a frame.
-fn made(alloc: Global, held: Held, helpers: u32) -> (Option<Held>, u8)
+fn next_section(alloc: Global, held: Held, helpers: u32) -> (Option<Held>, u8)
     requires sound { IsSoundHeld held }
     ensures made { Makes (Some held) helpers result.1 result.0 }
     ensures sound { IsSound result.0 }
@@ -90,7 +90,7 @@ pub fn next(alloc: Global, frame: &mut HostHandle, helpers: u32) -> u8
     let Some((block, held)) = frame.take_out(alloc) else {
         return NOT_NOW;
     };
-    let (held, status) = made(alloc, held, helpers);
+    let (held, status) = next_section(alloc, held, helpers);
     frame.put_back(block, held);
     status
 }

@@ -30,7 +30,7 @@ fn plain(at: TokenAt) -> RawNumber
 
 /// Makes a name, for the first time or again in the same kind. Answers its place.
 #[inline(always)]
-fn made<'a>(
+fn declare_name<'a>(
     source: Source<'a>,
     names: &mut Names<'a>,
     kind: NameKind,
@@ -58,7 +58,7 @@ fn array<'a>(
 ) -> Result<Order, OrderFault>
     ensures { Makes source.entry names.old names.new (NewArray name len Persistent None) result }
 {
-    let name = made(source, names, NameKind::Array, name)?;
+    let name = declare_name(source, names, NameKind::Array, name)?;
     let len = number_within(source, 0, MOST_ELEMENTS, len)?;
     Ok(Order::Array {
         name,
@@ -77,7 +77,7 @@ fn list<'a>(
 ) -> Result<Order, OrderFault>
     ensures { Makes source.entry names.old names.new (NewList name cap Persistent) result }
 {
-    let name = made(source, names, NameKind::List, name)?;
+    let name = declare_name(source, names, NameKind::List, name)?;
     let cap = number_within(source, 0, MOST_ELEMENTS, cap)?;
     Ok(Order::List {
         name,
@@ -95,7 +95,7 @@ fn reference<'a>(
 ) -> Result<Order, OrderFault>
     ensures { Makes source.entry names.old names.new (NewReference name Persistent (Some (plain value))) result }
 {
-    let name = made(source, names, NameKind::Reference, name)?;
+    let name = declare_name(source, names, NameKind::Reference, name)?;
     let value = signed_number(source, plain(value))?;
     Ok(Order::Reference {
         name,
@@ -113,7 +113,7 @@ fn map<'a>(
 ) -> Result<Order, OrderFault>
     ensures { Makes source.entry names.old names.new (NewMap name cap Persistent) result }
 {
-    let name = made(source, names, NameKind::Map, name)?;
+    let name = declare_name(source, names, NameKind::Map, name)?;
     let cap = number_within(source, 0, MOST_PAIRS, cap)?;
     Ok(Order::Map {
         name,
@@ -135,7 +135,7 @@ fn slice<'a>(
     ensures { Makes source.entry names.old names.new (Slice name of start len) result }
 {
     let act = makes::slice(source, names, name, of, start, len)?;
-    made(source, names, NameKind::Slice, name)?;
+    declare_name(source, names, NameKind::Slice, name)?;
     Ok(act)
 }
 
@@ -149,7 +149,7 @@ fn view<'a>(
     ensures { Makes source.entry names.old names.new (View name of) result }
 {
     let act = makes::view(source, names, name, of)?;
-    made(source, names, NameKind::View, name)?;
+    declare_name(source, names, NameKind::View, name)?;
     Ok(act)
 }
 

@@ -8,7 +8,7 @@ use Rattle.script_checks.specs.Spelling.{names_with}
 use Rattle.script_checks.specs.Checks.{Refuses}
 use Rattle.script_checks.proofs.FaultLemmas.{first_end, first_none, first_here, refuses, refuses_here, refuses_next, exits, refused_by}
 use Rattle.script_checks.proofs.PlaceLemmas.{remade}
-use Rattle.script_checks.proofs.order_checks.known.made.Goals as goal
+use Rattle.script_checks.proofs.order_checks.known.declare_name.Goals as goal
 
 abbrev long_in : ℕ → List ℕ → Option StaticFault
 long_in at text = unless (nat_le (length text) MOST_NAME_BYTES) Limit at
