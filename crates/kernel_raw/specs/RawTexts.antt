@@ -1,5 +1,7 @@
--- The tokens of a raw kernel, and what stands at their places: bytes, lines, values and depths.
-use Rattle.std.specs.Prelude.{ℕ, List, slice_get, unwrap_or}
+-- The tokens of a raw kernel, and what stands at their places: kinds, bytes, lines, values and depths.
+use Rattle.std.specs.Prelude.{ℕ, List, Option, Some, None, slice_get, unwrap_or}
+use Rattle.frame_grammar.specs.declared.token_kind.TokenKind.{TokenKind}
+use Rattle.frame_grammar.specs.declared.token_kind.TokenKind.TheVariants as token
 use Rattle.kernel_text.specs.declared.token.Token.{Token}
 use Rattle.kernel_raw.specs.declared.raw.RawKernel.{RawKernel}
 use Rattle.kernel_text.specs.Marks.{tokens_in}
@@ -9,6 +11,14 @@ use Rattle.kernel_text.specs.Numbers.{value_of}
 -- the tokens of a kernel
 abbrev pub raw_tokens : RawKernel → List Token
 raw_tokens raw = tokens_in raw.source.now raw.line raw.marks.now
+
+abbrev pub kind_of_token : Option Token → TokenKind
+kind_of_token None = token.End
+kind_of_token (Some t) = t.kind
+
+-- the kind of the token at a place
+abbrev pub kind_at : RawKernel → ℕ → TokenKind
+kind_at raw at = kind_of_token (slice_get (raw_tokens raw) at)
 
 -- the bytes of the token at a place
 abbrev pub text_at : RawKernel → ℕ → List ℕ

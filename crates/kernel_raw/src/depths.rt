@@ -12,7 +12,9 @@ ghost use Rattle.kernel_raw.specs.Depths.{one_if, depths_of, kept_depths};
 ghost use Rattle.kernel_raw.specs.Widths.{is_wide, count_wide, are_shallow};
 ghost use Rattle.kernel_raw.specs.Edges.{opened, closed, AreKeptOf};
 ghost use Rattle.kernel_raw.specs.Keeping.{one_more};
+ghost use Rattle.kernel_raw.specs.RawTexts.{depth_at};
 
+use crate::RawKernel;
 use crate::raw::{MOST_KEPT, RawNode};
 use job_base::NoMemory;
 use job_base::limits::MOST_DEPTH;
@@ -134,4 +136,12 @@ pub fn kept_depths(
     } else {
         Ok(Vec::new(alloc))
     }
+}
+
+/// How deep the node of a number stands, counted from 1; 0 where no depths are kept.
+#[inline]
+pub fn depth_at(raw: &RawKernel<'_>, number: usize) -> u32
+    ensures { result ≡ depth_at raw.now number }
+{
+    raw.depths.get(number).copied().unwrap_or(0)
 }

@@ -1,5 +1,7 @@
 //! The raw form of a kernel: what its tokens say before any name is looked up.
 
+ghost use Rattle.std.specs.Prelude.{◌≡◌, ◌<◌, length, slice_get, IfSome};
+
 use frame_ast::kernel::ParamKind;
 use frame_grammar::TokenAt;
 use job_base::Access;
@@ -124,4 +126,13 @@ pub struct RawKernel<'a> {
     /// How deep each of them stands among all nodes of the kernel, counted from 1. Empty where none of them stands
     /// deeper than MOST_DEPTH, as in most kernels.
     pub depths: Vec<u32>,
+}
+
+/// The node of a number.
+#[inline]
+pub fn node_at(raw: &RawKernel<'_>, number: usize) -> Option<RawNode>
+    ensures node { result ≡ slice_get raw.now.nodes.items number }
+    ensures within { IfSome result (λ node. number < length raw.now.nodes.items) }
+{
+    raw.nodes.get(number).copied()
 }

@@ -6,7 +6,7 @@ use Rattle.frame_grammar.specs.declared.symbols.Event.{Event}
 use Rattle.frame_grammar.specs.Grammar.{head_of}
 use Rattle.frame_grammar.specs.Bodies.{body_of}
 use Rattle.kernel_raw.specs.declared.raw.RawForm.TheVariants as form
-use Rattle.kernel_raw.specs.Raw.{RawExpr, Leaf, One, Two, Infix}
+use Rattle.kernel_raw.specs.Raw.{Leaf, One, Two, Infix}
 use Rattle.kernel_raw.specs.RawEvents.{on}
 use Rattle.kernel_raw.specs.RawEvents as raw
 use Rattle.kernel_raw.proofs.Derived.Meanings.{IsExpr, IsMore, Build, expr_up, is_expr_up}

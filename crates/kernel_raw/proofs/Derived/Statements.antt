@@ -8,7 +8,7 @@ use Rattle.frame_grammar.specs.Grammar.{head_of}
 use Rattle.frame_grammar.specs.Bodies.{body_of}
 use Rattle.kernel_raw.specs.declared.raw.RawForm.{RawForm}
 use Rattle.kernel_raw.specs.declared.raw.RawForm.TheVariants as form
-use Rattle.kernel_raw.specs.Raw.{RawExpr, RawBlock, Nothing, Simple, Nested, Branched, parts_size, PartsBelow}
+use Rattle.kernel_raw.specs.Raw.{RawExpr, Nothing, Simple, Nested, Branched, parts_size, PartsBelow}
 use Rattle.kernel_raw.specs.RawEvents.{on, SpellsBlock, SpellsHead}
 use Rattle.kernel_raw.specs.RawEvents as raw
 use Rattle.kernel_raw.proofs.Derived.Meanings.{IsSimple, IsStatements, IsBraced, Build, expr_up, parts_up, block_up}

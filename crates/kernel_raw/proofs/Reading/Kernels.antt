@@ -13,7 +13,7 @@ use Rattle.kernel_raw.specs.declared.raw.TheConstants.{MOST_KEPT}
 use Rattle.kernel_raw.specs.declared.part.Part.{Part}
 use Rattle.kernel_raw.specs.declared.part.Part.TheVariants as part
 use Rattle.kernel_raw.specs.RawTexts.{raw_tokens}
-use Rattle.kernel_raw.specs.Raw.{RawBlock, RawExpr, Leaf, One, Two, Infix, Nothing, Simple, Nested, Branched, block_size, block_nodes, expr_nodes, parts_nodes, ExprBelow, PartsBelow, BlockBelow, ParamsBelow}
+use Rattle.kernel_raw.specs.Raw.{RawBlock, RawExpr, Leaf, One, Two, Infix, Nothing, Simple, Nested, Branched, block_nodes, expr_nodes, parts_nodes, ExprBelow, PartsBelow, BlockBelow, ParamsBelow}
 use Rattle.kernel_raw.specs.RawEvents.{on, access_action, SpellsKind, SpellsParams, SpellsBlock, SpellsRaw, opening, IsWithin, IsKernel}
 use Rattle.kernel_raw.specs.RawEvents as raw
 use Rattle.kernel_raw.specs.Depths.{depths_of, kept_depths}

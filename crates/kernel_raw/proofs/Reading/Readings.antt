@@ -11,7 +11,7 @@ use Rattle.kernel_raw.specs.declared.raw.RawNode.{RawNode}
 use Rattle.kernel_raw.specs.declared.raw.RawParam.{RawParam}
 use Rattle.kernel_raw.specs.declared.part.Part.{Part}
 use Rattle.kernel_raw.specs.declared.part.Part.TheVariants as part
-use Rattle.kernel_raw.specs.Raw.{RawExpr, Leaf, One, Two, Infix, RawBlock, Nothing, Simple, Nested, Branched, expr_size, parts_size, block_size, expr_node, expr_nodes, parts_nodes, statement_node, block_nodes}
+use Rattle.kernel_raw.specs.Raw.{RawExpr, Leaf, One, Two, Infix, expr_size, expr_node, expr_nodes}
 use Rattle.kernel_raw.specs.RawEvents.{on, SpellsExpr, SpellsSimple, SpellsHead, SpellsBlock}
 use Rattle.kernel_raw.specs.RawEvents as raw
 use Rattle.kernel_raw.specs.Reading.{Reading, part_of, with_part, changed, is_last, last_after, change, replaced_if, step, run}
