@@ -210,7 +210,7 @@ impl<'a> Walk<'a> {
         Ok(())
     }
 
-    // The same, whatever item it is.
+    // Goes over the item at an event, as `step` does, whatever item it is.
     #[inline(never)]
     fn step_any(
         &mut self,

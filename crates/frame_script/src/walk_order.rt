@@ -31,8 +31,9 @@ fn name_bound(
     ensures { result ≡ made_by source.entry names.now (form_of raw.now) }
 {
     match raw {
-        RawOrder::Array { name, .. } => Some((*name, NameKind::Array)),
-        RawOrder::Column { name, .. } => Some((*name, NameKind::Array)),
+        RawOrder::Array { name, .. } | RawOrder::Column { name, .. } => {
+            Some((*name, NameKind::Array))
+        }
         RawOrder::List { name, .. } => Some((*name, NameKind::List)),
         RawOrder::Reference { name, .. } => Some((*name, NameKind::Reference)),
         RawOrder::Map { name, .. } => Some((*name, NameKind::Map)),
@@ -43,14 +44,26 @@ fn name_bound(
             None => None,
             Some((_, kind)) => Some((*name, kind)),
         },
-        RawOrder::Schedule { handle, .. } => Some((*handle, NameKind::Handle)),
         RawOrder::Combine { name, .. } => Some((*name, NameKind::Handle)),
         RawOrder::Dispose { handle, .. } => match handle {
             None => None,
             Some(handle) => Some((*handle, NameKind::Handle)),
         },
-        RawOrder::DisposeAuto { handle, .. } => Some((*handle, NameKind::Handle)),
-        _ => None,
+        RawOrder::Schedule { handle, .. } | RawOrder::DisposeAuto { handle, .. } => {
+            Some((*handle, NameKind::Handle))
+        }
+        RawOrder::Set { .. }
+        | RawOrder::Add { .. }
+        | RawOrder::Put { .. }
+        | RawOrder::Remove { .. }
+        | RawOrder::Clear { .. }
+        | RawOrder::SetCapacity { .. }
+        | RawOrder::Complete { .. }
+        | RawOrder::Print { .. }
+        | RawOrder::Flush
+        | RawOrder::Frame
+        | RawOrder::Repeat { .. }
+        | RawOrder::When { .. } => None,
     }
 }
 
@@ -59,20 +72,31 @@ fn place_bound(act: &Order) -> Option<u32>
     ensures { result ≡ made_place act.now }
 {
     match act {
-        Order::Array { name, .. } => Some(*name),
-        Order::Column { name, .. } => Some(*name),
-        Order::List { name, .. } => Some(*name),
-        Order::Reference { name, .. } => Some(*name),
-        Order::Map { name, .. } => Some(*name),
-        Order::Stream { name, .. } => Some(*name),
-        Order::Slice { name, .. } => Some(*name),
-        Order::View { name, .. } => Some(*name),
-        Order::Copy { name, .. } => Some(*name),
+        Order::Array { name, .. }
+        | Order::Column { name, .. }
+        | Order::List { name, .. }
+        | Order::Reference { name, .. }
+        | Order::Map { name, .. }
+        | Order::Stream { name, .. }
+        | Order::Slice { name, .. }
+        | Order::View { name, .. }
+        | Order::Copy { name, .. }
+        | Order::Combine { name, .. } => Some(*name),
         Order::Schedule(job) => Some(job.handle),
-        Order::Combine { name, .. } => Some(*name),
         Order::Dispose { handle, .. } => *handle,
         Order::DisposeAuto { handle, .. } => Some(*handle),
-        _ => None,
+        Order::Set { .. }
+        | Order::Add { .. }
+        | Order::Put { .. }
+        | Order::Remove { .. }
+        | Order::Clear { .. }
+        | Order::SetCapacity { .. }
+        | Order::Complete { .. }
+        | Order::CompleteAuto { .. }
+        | Order::Print { .. }
+        | Order::Flush
+        | Order::Frame
+        | Order::When { .. } => None,
     }
 }
 
@@ -104,7 +128,7 @@ pub fn bind_name<'a>(
     names.make(source.text(at), kind)
 }
 
-// An array with values.
+// What the text of a statement says, where it is an array with values.
 fn as_valued_array<'a>(raw: &RawOrder<'a>) -> Option<Valued<'a>>
     ensures { MatchOption result (closing (form_of raw.now) ≡ None → IsTrue (is_plain raw.now))
         (λ text. form_of raw.now ≡ valued_form text) }

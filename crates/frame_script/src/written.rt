@@ -34,12 +34,12 @@ pub struct Written {
     blocks: Vec<OpenBlock>,
 }
 
-fn set_count(order: &mut Order, behind: u32)
-    ensures { order.new ≡ with_count behind order.old }
+// Says of a `when` how many statements its block has. No other statement counts any.
+fn set_count(order: &mut Order, in_block: u32)
+    ensures { order.new ≡ with_count in_block order.old }
 {
-    match order {
-        Order::When { count, .. } => *count = behind,
-        _ => {}
+    if let Order::When { count, .. } = order {
+        *count = in_block;
     }
 }
 

@@ -156,7 +156,8 @@ fn answer_script<S: Sink>(alloc: Global, script: &Script, table: Option<&[u8]>, 
     }
 }
 
-// The work of `run_source`.
+// Answers for the bytes of a script: reads them, and goes on with what they parse to. From its clause `answer` follow
+// those of `run_source`.
 fn answer_source<S: Sink>(alloc: Global, source: &[u8], table: Option<&[u8]>, sink: &mut S) -> u8
     ensures answer { AnswersTo S.taken S.faults sink.old sink.new (SourceCause source.now (option_copied table.entry))
         (CanBeCutOf source.now (option_copied table.entry)) result }

@@ -15,12 +15,9 @@ fn push_column(alloc: Global, act: &Order, names: &mut Vec<Vec<u8>>) -> Result<(
     ensures { OnOk result (map (λ v. v.items) names.new.items
         ≡ map (λ v. v.items) names.old.items ++ columns_by act.now) }
 {
-    match act {
-        Order::Column { column, .. } => {
-            let name = column.as_slice().to_vec(alloc)?;
-            names.push(name)?;
-        }
-        _ => {}
+    if let Order::Column { column, .. } = act {
+        let name = column.as_slice().to_vec(alloc)?;
+        names.push(name)?;
     }
     Ok(())
 }

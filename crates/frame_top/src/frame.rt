@@ -103,7 +103,7 @@ fn report_depth<S: Sink>(
     }
 }
 
-/// Runs a script.
+/// Runs a script section by section, or writes which limit it passes.
 fn answer_run<R: Threads + Wait + Sync, S: Sink, W: Watch>(
     rt: &R,
     alloc: Global,

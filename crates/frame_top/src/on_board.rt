@@ -95,7 +95,7 @@ fn run_shown<R: Threads + Wait + Sync, P: ShowsPlan + Sync, S: Sink, G: Gate + S
     Ok(BoardRun { end, left })
 }
 
-// The same of a plan as it is.
+// Runs a plan with these workers. A failed write doesn't end the run, and is part of what it comes to.
 fn run_plan<R: Threads + Wait + Sync, S: Sink, G: Gate + Sync>(
     workers: &Workers<R>,
     plan: &Plan,

@@ -65,7 +65,13 @@ pub fn refuse_source<S: Sink>(line: u32, kind: FaultKind, sink: &mut S) -> u8
 {
     match kind {
         FaultKind::TooLong => say(PAST_LIMIT, b"limit: statements\n", sink),
-        _ => refuse_script(line, kind, sink),
+        FaultKind::Syntax
+        | FaultKind::UnknownName
+        | FaultKind::DuplicateName
+        | FaultKind::KindMismatch
+        | FaultKind::ReadOfWriteOnly
+        | FaultKind::WriteOfReadOnly
+        | FaultKind::Limit => refuse_script(line, kind, sink),
     }
 }
 

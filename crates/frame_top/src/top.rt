@@ -107,7 +107,8 @@ pub fn answer_command<R: Threads + Wait + Sync, F: Files, S: Sink, W: Watch>(
     }
 }
 
-// The work of `run_watched`.
+// Answers the words of a command line: reads them, and goes on with their command. The clauses of `run_watched` follow
+// from those here.
 fn answer_words<R: Threads + Wait + Sync, F: Files, S: Sink, W: Watch>(
     rt: &R,
     alloc: Global,

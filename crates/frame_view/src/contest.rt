@@ -13,6 +13,7 @@ fn shares(one: Bind, other: Bind) -> bool
     u64::from(one.start().max(other.start())) < one.end().min(other.end())
 }
 
+// Whether two arguments have a word in common that one of the two may write.
 fn clashes(access: Access, bind: Bind, other: Access, other_bind: Bind) -> bool
     ensures { result ≡ clashes access bind other other_bind }
 {

@@ -36,15 +36,15 @@ fn contested_name(
     param: Option<&Param>,
     bind: Option<&Bind>,
 ) -> Option<u32> {
-    match (arg, param, bind) {
-        (Arg::Name(name), Some(param), Some(bind)) => {
-            if is_contested(earlier.params, earlier.binds, param.access, *bind) {
+    match arg {
+        Arg::Name(name) => {
+            if is_contested(earlier.params, earlier.binds, param?.access, *bind?) {
                 Some(name)
             } else {
                 None
             }
         }
-        _ => None,
+        Arg::Number(_) => None,
     }
 }
 
@@ -93,11 +93,9 @@ pub(crate) fn label_of(
     later: JobId,
     args: &[Arg],
 ) -> Result<String, NoMemory> {
-    match (uses_of(plan, earlier), uses_of(plan, later)) {
-        (Some(earlier), Some(later)) => {
-            let names = contested_names(alloc, earlier, later, args)?;
-            Ok(names_text(alloc, script, &names)?)
-        }
-        _ => Ok(String::new(alloc)),
-    }
+    let (Some(earlier), Some(later)) = (uses_of(plan, earlier), uses_of(plan, later)) else {
+        return Ok(String::new(alloc));
+    };
+    let names = contested_names(alloc, earlier, later, args)?;
+    Ok(names_text(alloc, script, &names)?)
 }

@@ -42,7 +42,15 @@ fn mark_of(op: &Op) -> Option<Mark>
             name: op.name,
             refusal,
         }),
-        _ => None,
+        Act::Fill { .. }
+        | Act::Move { .. }
+        | Act::Set { .. }
+        | Act::AddTo { .. }
+        | Act::Put { .. }
+        | Act::Remove { .. }
+        | Act::Clear { .. }
+        | Act::Print { .. }
+        | Act::Report { .. } => None,
     }
 }
 

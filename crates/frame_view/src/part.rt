@@ -34,7 +34,7 @@ pub(crate) fn passing_after(passing: u32, act: &Order) -> u32
     }
 }
 
-// The same after the statement at a place.
+// How many are passed by after the statement at a place, where it acts no more.
 fn passed_at(script: &Script, at: usize) -> u32
     ensures { result ≡ passed_by (slice_get script.now.statements.items at) }
 {

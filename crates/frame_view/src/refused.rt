@@ -18,7 +18,17 @@ fn blocker_of(refusal: Refusal) -> Option<JobId>
 {
     match refusal {
         Refusal::Pending(job) => Some(job),
-        _ => None,
+        Refusal::Disposed
+        | Refusal::StaleView
+        | Refusal::NotParallel
+        | Refusal::Alias
+        | Refusal::StoreFull
+        | Refusal::Range
+        | Refusal::Full
+        | Refusal::MissingKey
+        | Refusal::PresentKey
+        | Refusal::TempInJob
+        | Refusal::Busy(_) => None,
     }
 }
 
@@ -50,7 +60,7 @@ fn level_of(depth: &Depth, refusal: Refusal, before: u32) -> u32
     }
 }
 
-// The lines of its box, where it is this statement.
+// The lines of a refused schedule's box, where it is this statement.
 fn lines_in(
     alloc: Global,
     script: &Script,
@@ -73,7 +83,7 @@ fn lines_in(
     }
 }
 
-// The lines of its box.
+// The lines of a refused schedule's box.
 fn lines_of(alloc: Global, script: &Script, refused: Refused) -> Result<Vec<String>, NoMemory>
     ensures { IfOk result (λ lines. map (λ v. string_bytes v) lines.items
         ≡ refused_lines_by script.now refused (slice_get script.now.statements.items refused.at)) }
