@@ -13,9 +13,9 @@ use Rattle.kernel_raw.specs.Raw.{RawExpr, Leaf, One, Two, Infix, RawBlock, Nothi
 use Rattle.kernel_code.specs.declared.check.names.Named.{Named}
 use Rattle.kernel_code.specs.declared.check.names.Named.TheVariants.{Parameter, Variable, LoopVariable}
 use Rattle.kernel_code.specs.StaticFaults.{nodes_fault}
-use Rattle.kernel_raw.specs.RawTexts.{value_at}
+use Rattle.kernel_raw.specs.RawTexts.{kind_at, value_at}
 use Rattle.kernel_code.specs.Known.{meanings_from, number_named}
-use Rattle.kernel_code.specs.Trees.{Joint, Both, Either, By, ExprOf, BlockOf, kind_at, is_minus}
+use Rattle.kernel_code.specs.Trees.{Joint, Both, Either, By, ExprOf, BlockOf, is_minus}
 
 -- FORMS THAT TREES HAVE
 

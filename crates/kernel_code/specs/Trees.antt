@@ -1,6 +1,6 @@
 -- The kernel that a raw kernel without faults is: the same tree, with numbers by their value and names by what they are
 -- where they stand.
-use Rattle.std.specs.Prelude.{◌≡◌, ℕ, ◌+◌, pos, Bool, true, false, List, [], ◌∷◌, length, map, Option, Some, None, slice_get}
+use Rattle.std.specs.Prelude.{◌≡◌, ℕ, ◌+◌, pos, Bool, true, false, List, [], ◌∷◌, length, map, Option, Some, None, unwrap_or}
 use Rattle.std.specs.String.{string_bytes}
 use Rattle.job_base.specs.declared.Access.{Access}
 use Rattle.frame_grammar.specs.declared.token_kind.TokenKind.{TokenKind}
@@ -15,44 +15,36 @@ use Rattle.frame_ast.specs.declared.kernel.Expr.{Expr}
 use Rattle.frame_ast.specs.declared.kernel.Expr.TheVariants.{Number, Index, Local, Value, Element', Length, Has', Count', Item', Negative', Not', And', Or', Binary'}
 use Rattle.frame_ast.specs.declared.kernel.Stmt.{Stmt, out-Stmt}
 use Rattle.frame_ast.specs.declared.kernel.Stmt.TheOpen.{Assign, SetValue, Store, Add, AddPair, TryAdd, RemoveAt, RemoveKey, Clear, Write, Begin, If, For, While}
-use Rattle.kernel_text.specs.declared.token.Token.{Token}
 use Rattle.kernel_raw.specs.declared.raw.RawForm.TheVariants as form
 use Rattle.kernel_raw.specs.declared.raw.RawParam.{RawParam}
 use Rattle.kernel_raw.specs.declared.raw.RawKernel.{RawKernel}
 use Rattle.kernel_code.specs.declared.check.names.Named.TheVariants.{Parameter, Variable, LoopVariable}
-use Rattle.kernel_raw.specs.RawTexts.{raw_tokens, text_at, value_at}
+use Rattle.kernel_raw.specs.RawTexts.{kind_at, text_at, value_at}
 use Rattle.kernel_raw.specs.Raw.{RawExpr, Leaf, One, Two, Infix, RawBlock, Nothing, Simple, Nested, Branched, expr_size, block_size}
 use Rattle.kernel_raw.specs.RawEvents.{SpellsRaw}
 use Rattle.kernel_code.specs.Scopes.{locals_before, locals_of, meaning_of}
 
 -- OPERATORS
 
-abbrev pub kind_of_token : Option Token → TokenKind
-kind_of_token None = token.End
-kind_of_token (Some t) = t.kind
-
--- the kind of the token at a place
-abbrev pub kind_at : RawKernel → ℕ → TokenKind
-kind_at raw at = kind_of_token (slice_get (raw_tokens raw) at)
-
 -- a unary operator is `-` or `!`
 abbrev pub is_minus : TokenKind → Bool
 is_minus token.Minus = true
 is_minus _ = false
 
--- the operators that evaluate both sides, of which `%` is the last
-abbrev pub operator_of : TokenKind → Operator
-operator_of token.Equal = operator.Equal
-operator_of token.NotEqual = operator.NotEqual
-operator_of token.Less = operator.Less
-operator_of token.LessEqual = operator.LessEqual
-operator_of token.Greater = operator.Greater
-operator_of token.GreaterEqual = operator.GreaterEqual
-operator_of token.Plus = operator.Plus
-operator_of token.Minus = operator.Minus
-operator_of token.Star = operator.Times
-operator_of token.Slash = operator.Divide
-operator_of _ = operator.Remainder
+-- the operator that a token is, if it is one that evaluates both sides
+abbrev pub operator_of : TokenKind → Option Operator
+operator_of token.Equal = Some operator.Equal
+operator_of token.NotEqual = Some operator.NotEqual
+operator_of token.Less = Some operator.Less
+operator_of token.LessEqual = Some operator.LessEqual
+operator_of token.Greater = Some operator.Greater
+operator_of token.GreaterEqual = Some operator.GreaterEqual
+operator_of token.Plus = Some operator.Plus
+operator_of token.Minus = Some operator.Minus
+operator_of token.Star = Some operator.Times
+operator_of token.Slash = Some operator.Divide
+operator_of token.Percent = Some operator.Remainder
+operator_of _ = None
 
 -- what joins two sides: `&&`, `||`, or an operator that evaluates both
 pub data Joint : Type 0 where
@@ -60,10 +52,11 @@ pub data Joint : Type 0 where
   Either : Joint
   By : Operator → Joint
 
+-- by the grammar no other token joins two sides; one would count as `%`
 abbrev pub joint_of : TokenKind → Joint
 joint_of token.AndAnd = Both
 joint_of token.OrOr = Either
-joint_of kind = By (operator_of kind)
+joint_of kind = By (unwrap_or (operator_of kind) operator.Remainder)
 
 -- NAMES
 

@@ -9,6 +9,7 @@ ghost use Rattle.kernel_raw.specs.Legible.{IsParsed};
 
 mod demands;
 mod expressions;
+mod forms;
 mod kernels;
 mod names;
 mod nodes;
@@ -18,15 +19,13 @@ mod plain;
 mod resolve;
 mod statements;
 mod streams;
-mod texts;
 
 use crate::check::kernels::kernel_of;
 use crate::check::params::{fault_at, kernel_name_fault, params_fault};
 use crate::check::resolve::resolve;
-use crate::check::texts::{line_at, text_at};
 use frame_ast::kernel::{FaultKind, Kernel};
 use frame_grammar::TokenAt;
-use kernel_raw::{KernelFault, RawKernel};
+use kernel_raw::{KernelFault, RawKernel, line_at, text_at};
 use std::alloc::Global;
 
 /// A static fault, at the token of that place among those of the kernel.

@@ -5,10 +5,10 @@ use Rattle.kernel_text.specs.declared.mark.Mark.{Mark}
 use Rattle.kernel_raw.specs.declared.raw.RawKernel.{RawKernel}
 use Rattle.kernel_raw.specs.declared.raw.RawParam.{RawParam}
 use Rattle.kernel_raw.specs.declared.raw.RawNode.{RawNode}
-use Rattle.kernel_raw.specs.RawTexts.{text_at, value_at}
+use Rattle.kernel_raw.specs.RawTexts.{kind_at, text_at, value_at}
 use Rattle.kernel_code.specs.Scopes.{meaning_of, locals_before, locals_of}
 use Rattle.kernel_code.specs.StaticFaults.{first_fault}
-use Rattle.kernel_code.specs.Trees.{kind_at, raw_param_text}
+use Rattle.kernel_code.specs.Trees.{raw_param_text}
 
 pub record Parts : Type 0 where
   pub source : List ℕ

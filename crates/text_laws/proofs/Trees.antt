@@ -6,9 +6,9 @@ use Rattle.kernel_raw.specs.declared.raw.RawKernel.{RawKernel}
 use Rattle.kernel_code.specs.declared.check.names.Named.{Named}
 use Rattle.kernel_code.specs.declared.check.names.Named.TheVariants.{Parameter, Variable, LoopVariable}
 use Rattle.kernel_raw.specs.Raw.{RawExpr}
-use Rattle.kernel_raw.specs.RawTexts.{text_at}
+use Rattle.kernel_raw.specs.RawTexts.{kind_at, text_at}
 use Rattle.kernel_code.specs.Scopes.{meaning_of}
-use Rattle.kernel_code.specs.Trees.{Joint, Both, Either, By, joint_of, is_minus, kind_at, ExprOf, Declares}
+use Rattle.kernel_code.specs.Trees.{Joint, Both, Either, By, joint_of, is_minus, ExprOf, Declares}
 use Rattle.kernel_code.specs.Trees as tree
 use Rattle.tree_laws.specs.Same.{SameExpr}
 use Rattle.text_laws.proofs.Raws.{parts_of, same_value, same_kind, same_meaning, same_before}

@@ -8,11 +8,12 @@ use Rattle.kernel_raw.specs.declared.raw.RawNode.{RawNode}
 use Rattle.kernel_raw.specs.declared.raw.RawKernel.{RawKernel}
 use Rattle.kernel_code.specs.declared.check.names.Named.{Named}
 use Rattle.kernel_code.specs.declared.check.names.Meaning.{Meaning}
+use Rattle.kernel_raw.specs.RawTexts.{kind_at}
 use Rattle.kernel_raw.specs.Raw.{RawExpr, Leaf, One, Two, Infix, expr_size, expr_node}
 use Rattle.kernel_code.specs.StaticFaults.{node_fault, nodes_fault, token_fault, name_fault}
 use Rattle.kernel_code.specs.Scopes.{declares, as_local, local_of, locals_before}
 use Rattle.kernel_code.specs.Known.{IsFaultless, has_name, meaning_if, name_named, name_stored, number_named, meaning_at, meanings_from}
-use Rattle.kernel_code.specs.Trees.{ExprOf, item, kind_at, joint_of}
+use Rattle.kernel_code.specs.Trees.{ExprOf, item, joint_of}
 use Rattle.kernel_code.specs.Places.{is_leaf, is_one, is_two, IsFormed, StandsExpr, Ends, IsHere, IsAtomHere, Begins, whole, further, IsBuilt, IsResolved, leaf_of, IsOneOf, IsJoint}
 use Rattle.kernel_code.proofs.NoFaults.{option_or-none, node_fault-none}
 use Rattle.kernel_code.proofs.Built.Leaves.{leaf_is, one_is, joint_is, is_parameter}

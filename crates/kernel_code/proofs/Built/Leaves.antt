@@ -11,11 +11,11 @@ use Rattle.kernel_raw.specs.declared.raw.RawKernel.{RawKernel}
 use Rattle.kernel_code.specs.declared.check.names.Named.{Named}
 use Rattle.kernel_code.specs.declared.check.names.Named.TheVariants.{Parameter, Variable, LoopVariable}
 use Rattle.kernel_raw.specs.Raw.{RawExpr, Leaf, One, Infix, expr_size}
-use Rattle.kernel_raw.specs.RawTexts.{text_at, value_at}
+use Rattle.kernel_raw.specs.RawTexts.{kind_at, text_at, value_at}
 use Rattle.kernel_code.specs.Scopes.{meaning_of}
 use Rattle.kernel_code.specs.StaticFaults.{use_fault, used_fault, name_fault, token_fault, variable_fault, loop_variable_fault}
 use Rattle.kernel_code.specs.Known.{has_name, meaning_if, number_named}
-use Rattle.kernel_code.specs.Trees.{Joint, Both, Either, By, ExprOf, number, index, variable, loop_variable, value, size, element, has, count, negative, opposite, both, either, between, IsParameter, kind_at, is_minus, joint_of}
+use Rattle.kernel_code.specs.Trees.{Joint, Both, Either, By, ExprOf, number, index, variable, loop_variable, value, size, element, has, count, negative, opposite, both, either, between, IsParameter, is_minus, joint_of}
 use Rattle.kernel_code.specs.Places.{is_leaf, is_one, value_named, leaf_of, IsOneOf, IsJoint}
 use Rattle.kernel_code.proofs.NoFaults.{lowest-none, some_if-none}
 

@@ -153,36 +153,14 @@ pub fn variable_fault(form: RawForm) -> Option<FaultKind>
     }
 }
 
-/// Why a local of a `for` can't be the name of a form.
+/// Why a local of a `for` can't be the name of a form: it isn't written, and is else as one of a `var`.
 pub fn loop_variable_fault(form: RawForm) -> Option<FaultKind>
     ensures { result ≡ loop_variable_fault form }
 {
-    match form {
-        RawForm::Name => None,
-        RawForm::SetName => Some(FaultKind::WriteOfReadOnly),
-        RawForm::Number
-        | RawForm::Index
-        | RawForm::Element
-        | RawForm::Length
-        | RawForm::Has
-        | RawForm::Count
-        | RawForm::Item
-        | RawForm::Unary
-        | RawForm::Binary
-        | RawForm::Var
-        | RawForm::SetPlace
-        | RawForm::SetTryAdd
-        | RawForm::SetRemove
-        | RawForm::AddItem
-        | RawForm::AddPair
-        | RawForm::Remove
-        | RawForm::Clear
-        | RawForm::Write
-        | RawForm::Begin
-        | RawForm::If
-        | RawForm::IfElse
-        | RawForm::For
-        | RawForm::While => Some(FaultKind::KindMismatch),
+    if matches!(form, RawForm::SetName) {
+        Some(FaultKind::WriteOfReadOnly)
+    } else {
+        variable_fault(form)
     }
 }
 

@@ -11,17 +11,16 @@ ghost use Rattle.frame_ast.specs.declared.kernel.Expr.TheVariants.{Negative', No
 ghost use Rattle.kernel_raw.specs.Raw.{RawExpr};
 ghost use Rattle.kernel_raw.specs.RawTexts.{value_at};
 ghost use Rattle.kernel_code.specs.Known.{number_named};
-ghost use Rattle.kernel_code.specs.Trees.{kind_at, joint_of};
+ghost use Rattle.kernel_code.specs.Trees.{joint_of};
 ghost use Rattle.kernel_code.specs.Places.{value_named, leaf_of, IsOneOf, IsJoint, IsHere, IsAtomHere, Begins, IsBuilt, IsResolved};
 
 use crate::check::names::{Meaning, Named};
 use crate::check::nodes::MOST_NUMBER;
 use crate::check::operators::{is_minus, operator_of};
-use crate::check::texts::value_at;
-use frame_ast::kernel::Expr;
+use frame_ast::kernel::{Expr, Operator};
 use frame_grammar::{TokenAt, TokenKind};
 use job_base::NoMemory;
-use kernel_raw::{RawForm, RawKernel, RawNode};
+use kernel_raw::{RawForm, RawKernel, RawNode, kind_at, node_at, value_at};
 use std::alloc::Global;
 
 /// What was built of nodes, and the place of the node after them.
@@ -43,14 +42,6 @@ pub fn number_of(named: Option<Named>) -> u32
     }
 }
 
-/// The node of a number.
-pub fn node_at(raw: &RawKernel<'_>, number: usize) -> Option<RawNode>
-    ensures node { result ≡ slice_get raw.now.nodes.items number }
-    ensures within { IfSome result (λ node. number < length raw.now.nodes.items) }
-{
-    raw.nodes.get(number).copied()
-}
-
 /// What the names of a node stand for.
 pub fn meaning_at(meanings: &[Meaning], number: usize) -> Meaning
     ensures { (m : Meaning) → slice_get meanings.now number ≡ Some m → result ≡ m }
@@ -69,15 +60,6 @@ fn number_at(raw: &RawKernel<'_>, at: TokenAt) -> i64
     ensures { result ≡ pos (min 9223372036854775807 (value_at raw.now at)) }
 {
     value_at(raw, at).min(MOST_NUMBER) as i64
-}
-
-fn kind_at(raw: &RawKernel<'_>, at: TokenAt) -> TokenKind
-    ensures { result ≡ kind_at raw.now at }
-{
-    match raw.marks.get(at.index()) {
-        Some(mark) => mark.kind(),
-        None => TokenKind::End,
-    }
 }
 
 // The expression of a name as a value.
@@ -176,7 +158,7 @@ fn one_operand(
     }
 }
 
-// The expression of an operator between two sides.
+// The expression of an operator between two sides. By the grammar no other token stands there; one would count as `%`.
 fn binary(alloc: Global, kind: TokenKind, left: Expr, right: Expr) -> Result<Expr, NoMemory>
     ensures { IfOk result (λ x. IsJoint (joint_of kind) left right x) }
 {
@@ -184,7 +166,7 @@ fn binary(alloc: Global, kind: TokenKind, left: Expr, right: Expr) -> Result<Exp
     match kind {
         TokenKind::AndAnd => Ok(Expr::And(sides)),
         TokenKind::OrOr => Ok(Expr::Or(sides)),
-        _ => Ok(Expr::Binary(operator_of(kind), sides)),
+        _ => Ok(Expr::Binary(operator_of(kind).unwrap_or(Operator::Remainder), sides)),
     }
 }
 

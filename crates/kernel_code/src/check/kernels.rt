@@ -11,11 +11,10 @@ ghost use Rattle.kernel_raw.specs.Legible.{IsLegible, IsParsed};
 
 use crate::check::resolve::Meanings;
 use crate::check::statements::block;
-use crate::check::texts::{text_at, value_at};
 use frame_ast::kernel::{Body, Kernel, Param};
 use frame_grammar::TokenAt;
 use job_base::NoMemory;
-use kernel_raw::RawKernel;
+use kernel_raw::{RawKernel, text_at, value_at};
 use std::alloc::Global;
 use std::str;
 

@@ -9,10 +9,9 @@ ghost use Rattle.kernel_code.specs.Scopes.{parameter, in_scope, as_local, local_
 ghost use Rattle.kernel_code.specs.declared.check.names.Named.TheVariants.{Variable, LoopVariable};
 ghost use Rattle.kernel_code.specs.Known.{AreNames};
 
-use crate::check::texts::{is_spelled, text_at};
 use frame_grammar::TokenAt;
 use job_base::NoMemory;
-use kernel_raw::RawKernel;
+use kernel_raw::{RawKernel, is_spelled, text_at};
 use kernel_text::is_same;
 use std::alloc::Global;
 

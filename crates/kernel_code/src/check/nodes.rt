@@ -10,14 +10,14 @@ use crate::check::StaticFault;
 use crate::check::demands::{
     answer_kind_fault, demand_fault, fault_if, loop_variable_fault, lowest, variable_fault,
 };
+use crate::check::forms::{declares, has_answer, has_name};
 use crate::check::names::{Local, Meaning, Named, meaning_of};
 use crate::check::params::{fault_at, length_fault};
 use crate::check::streams::{StreamBlock, stands_in};
-use crate::check::texts::{is_above, text_at};
 use frame_ast::kernel::FaultKind;
 use frame_grammar::TokenAt;
 use job_base::limits::{MOST_LOCALS, MOST_PARAMS};
-use kernel_raw::{RawForm, RawKernel, RawNode};
+use kernel_raw::{RawForm, RawKernel, RawNode, is_above, text_at};
 
 /// The greatest number of a kernel's text.
 pub const MOST_NUMBER: u64 = 9_223_372_036_854_775_807;
@@ -43,28 +43,11 @@ fn answer_named(
     requires locals { locals.now ≡ locals_before raw.now.nodes.items number }
     ensures { result ≡ answer_named raw.now number node.now }
 {
-    match node.form {
-        RawForm::SetTryAdd | RawForm::SetRemove => {
-            meaning_of(raw, names, locals, number, text_at(raw, node.at))
-        }
-        _ => None,
+    if has_answer(node.form) {
+        meaning_of(raw, names, locals, number, text_at(raw, node.at))
+    } else {
+        None
     }
-}
-
-/// Whether a form has a name.
-pub fn has_name(form: RawForm) -> bool
-    ensures { result ≡ has_name form }
-{
-    !matches!(
-        form,
-        RawForm::Number
-            | RawForm::Index
-            | RawForm::Unary
-            | RawForm::Binary
-            | RawForm::If
-            | RawForm::IfElse
-            | RawForm::While
-    )
 }
 
 // The fault of a stream that is the name of a form, for the blocks in which the form stands.
@@ -182,34 +165,13 @@ fn token_fault(
     requires { answer ≡ answer_named raw.now number node.now }
     ensures { result ≡ token_fault raw.now number node.now.at node.now.form }
 {
-    match node.form {
-        RawForm::SetTryAdd | RawForm::SetRemove => lowest(
+    if has_answer(node.form) {
+        lowest(
             answer_fault(raw, answer),
             length_fault(text_at(raw, node.at)),
-        ),
-        RawForm::Number
-        | RawForm::Index
-        | RawForm::Name
-        | RawForm::Element
-        | RawForm::Length
-        | RawForm::Has
-        | RawForm::Count
-        | RawForm::Item
-        | RawForm::Unary
-        | RawForm::Binary
-        | RawForm::Var
-        | RawForm::SetName
-        | RawForm::SetPlace
-        | RawForm::AddItem
-        | RawForm::AddPair
-        | RawForm::Remove
-        | RawForm::Clear
-        | RawForm::Write
-        | RawForm::Begin
-        | RawForm::If
-        | RawForm::IfElse
-        | RawForm::For
-        | RawForm::While => atom_fault(raw, node),
+        )
+    } else {
+        atom_fault(raw, node)
     }
 }
 
@@ -229,34 +191,13 @@ fn name_fault(
     requires named { named ≡ meaning_of raw.now number name.now }
     ensures { result ≡ name_fault raw.now number node.now.name node.now.form }
 {
-    match node.form {
-        RawForm::Var | RawForm::For => declared_fault(raw, scope.locals, number, name, named),
-        RawForm::Name
-        | RawForm::Element
-        | RawForm::Length
-        | RawForm::Has
-        | RawForm::Count
-        | RawForm::Item
-        | RawForm::SetName
-        | RawForm::SetPlace
-        | RawForm::SetTryAdd
-        | RawForm::SetRemove
-        | RawForm::AddItem
-        | RawForm::AddPair
-        | RawForm::Remove
-        | RawForm::Clear
-        | RawForm::Write
-        | RawForm::Begin => lowest(
+    if declares(node.form) {
+        declared_fault(raw, scope.locals, number, name, named)
+    } else {
+        lowest(
             use_fault(raw, scope.blocks, number, node.form, named),
             length_fault(name),
-        ),
-        RawForm::Number
-        | RawForm::Index
-        | RawForm::Unary
-        | RawForm::Binary
-        | RawForm::If
-        | RawForm::IfElse
-        | RawForm::While => unreachable!(),
+        )
     }
 }
 

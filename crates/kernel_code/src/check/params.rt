@@ -9,12 +9,11 @@ ghost use Rattle.std.specs.String.{string_bytes};
 
 use crate::check::StaticFault;
 use crate::check::demands::{fault_if, lowest};
-use crate::check::texts::{is_spelled, text_at, value_at};
 use frame_ast::kernel::{FaultKind, Kernel, ParamKind};
 use frame_grammar::TokenAt;
 use job_base::Access;
 use job_base::limits::{MOST_KERNELS, MOST_NAME_BYTES, MOST_PARAMS, MOST_WIDTH};
-use kernel_raw::{RawKernel, RawParam};
+use kernel_raw::{RawKernel, RawParam, is_spelled, text_at, value_at};
 
 /// A fault of the token at a place.
 pub fn fault_at(at: TokenAt, kind: Option<FaultKind>) -> Option<StaticFault>

@@ -7,32 +7,12 @@ ghost use Rattle.kernel_code.specs.Scopes.{locals_before};
 ghost use Rattle.kernel_code.specs.Known.{AreNames, only_uses, used_name, plain_name};
 
 use crate::check::demands::{demand_fault, loop_variable_fault, variable_fault};
+use crate::check::forms::{has_name, only_uses};
 use crate::check::names::{Local, Named, meaning_of};
-use crate::check::nodes::{atom_fault, has_name};
+use crate::check::nodes::atom_fault;
 use crate::check::params::length_fault;
-use crate::check::texts::text_at;
 use job_base::limits::{MOST_LOCALS, MOST_PARAMS};
-use kernel_raw::{RawForm, RawKernel, RawNode};
-
-fn only_uses(form: RawForm) -> bool
-    ensures { result ≡ only_uses form }
-{
-    matches!(
-        form,
-        RawForm::Name
-            | RawForm::Element
-            | RawForm::Length
-            | RawForm::Has
-            | RawForm::Count
-            | RawForm::Item
-            | RawForm::SetName
-            | RawForm::SetPlace
-            | RawForm::AddItem
-            | RawForm::AddPair
-            | RawForm::Remove
-            | RawForm::Clear
-    )
-}
+use kernel_raw::{RawForm, RawKernel, RawNode, text_at};
 
 // Whether what a name stands for can be the name of a form that only uses it.
 fn fits_use(raw: &RawKernel<'_>, form: RawForm, named: Option<Named>) -> bool

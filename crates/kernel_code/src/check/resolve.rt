@@ -1,19 +1,19 @@
 //! What the names of all nodes stand for, up to the first fault.
 
 ghost use Rattle.std.specs.Prelude.{◌≡◌, ◌≤◌, ◌<◌, ◌++◌, ◌||◌, ◌+◌, ℕ, None, Some, length, slice_get, vec_len, IfOk, OnOk, MatchResult};
-ghost use Rattle.kernel_raw.specs.RawTexts.{depth_at};
 ghost use Rattle.kernel_code.specs.StaticFaults.{is_over_limit, node_fault, nodes_fault};
-ghost use Rattle.kernel_code.specs.Scopes.{declares, is_loop, is_begin, end_in, block_end, local_of, local_if, locals_before, locals_of};
+ghost use Rattle.kernel_code.specs.Scopes.{declares, end_in, block_end, local_of, local_if, locals_before, locals_of};
 ghost use Rattle.kernel_code.specs.Known.{AreNames, stands_in, is_block, IsKnown, name_named, name_stored, meanings_from};
 
 use crate::check::StaticFault;
+use crate::check::forms::{declares, is_begin, is_loop};
 use crate::check::names::{Local, Meaning, Named, as_local, names_of, parameter_at};
 use crate::check::nodes::look_up;
 use crate::check::plain::plain_name;
 use crate::check::streams::{StreamBlock, close_blocks};
 use job_base::NoMemory;
 use job_base::limits::{MOST_DEPTH, MOST_LOCALS, MOST_NODES, MOST_PARAMS};
-use kernel_raw::{RawForm, RawKernel, RawNode};
+use kernel_raw::{RawKernel, RawNode, depth_at};
 use std::alloc::Global;
 
 /// What the names of the nodes stand for, and how many locals there are.
@@ -31,24 +31,6 @@ struct Known {
     blocks: Vec<StreamBlock>,
     /// What the names of the nodes stand for.
     of_nodes: Vec<Meaning>,
-}
-
-fn declares(form: RawForm) -> bool
-    ensures { result ≡ declares form }
-{
-    matches!(form, RawForm::Var | RawForm::For)
-}
-
-fn is_loop(form: RawForm) -> bool
-    ensures { result ≡ is_loop form }
-{
-    matches!(form, RawForm::For)
-}
-
-fn is_begin(form: RawForm) -> bool
-    ensures { result ≡ is_begin form }
-{
-    matches!(form, RawForm::Begin)
 }
 
 // The node behind the block in which a node stands.
@@ -146,13 +128,6 @@ fn note_block(
         end: start + node.inside as usize,
     })?;
     Ok(())
-}
-
-// How deep a node stands.
-fn depth_at(raw: &RawKernel<'_>, number: usize) -> u32
-    ensures { result ≡ depth_at raw.now number }
-{
-    raw.depths.get(number).copied().unwrap_or(0)
 }
 
 // What is kept of a node whatever it is, or its first fault.

@@ -9,11 +9,11 @@ ghost use Rattle.kernel_code.specs.Known.{number_named};
 ghost use Rattle.kernel_code.specs.Trees.{BlockOf};
 ghost use Rattle.kernel_code.specs.Places.{set_of, statement_with_one, statement_with_two, has_first, IsFirst, IsBlockHere, IsResolved};
 
-use crate::check::expressions::{expression, meaning_at, node_at, number_of};
+use crate::check::expressions::{expression, meaning_at, number_of};
 use crate::check::names::{Meaning, Named};
 use frame_ast::kernel::{Expr, Stmt};
 use job_base::NoMemory;
-use kernel_raw::{RawForm, RawKernel, RawNode};
+use kernel_raw::{RawForm, RawKernel, RawNode, node_at};
 use std::alloc::Global;
 
 // The statement `x = e;`.
