@@ -8,6 +8,7 @@ use Rattle.kernel_raw.specs.declared.raw.RawNode.{RawNode}
 use Rattle.kernel_raw.specs.declared.raw.RawKernel.{RawKernel}
 use Rattle.kernel_code.specs.declared.check.names.Named.{Named}
 use Rattle.kernel_code.specs.declared.check.names.Meaning.{Meaning}
+use Rattle.kernel_raw.specs.RawTexts.{kind_at}
 use Rattle.kernel_raw.specs.Raw.{RawExpr, Leaf, One, Two, Infix, expr_size, expr_node}
 use Rattle.kernel_code.specs.StaticFaults.{node_fault, nodes_fault, token_fault, name_fault}
 use Rattle.kernel_code.specs.Scopes.{declares, as_local, local_of, locals_before}

@@ -11,7 +11,7 @@ use Rattle.kernel_raw.specs.declared.raw.RawKernel.{RawKernel}
 use Rattle.kernel_code.specs.declared.check.names.Named.{Named}
 use Rattle.kernel_code.specs.declared.check.names.Named.TheVariants.{Parameter, Variable, LoopVariable}
 use Rattle.kernel_raw.specs.Raw.{RawExpr, Leaf, One, Infix, expr_size}
-use Rattle.kernel_raw.specs.RawTexts.{text_at, value_at}
+use Rattle.kernel_raw.specs.RawTexts.{kind_at, text_at, value_at}
 use Rattle.kernel_code.specs.Scopes.{meaning_of}
 use Rattle.kernel_code.specs.StaticFaults.{use_fault, used_fault, name_fault, token_fault, variable_fault, loop_variable_fault}
 use Rattle.kernel_code.specs.Known.{has_name, meaning_if, number_named}
