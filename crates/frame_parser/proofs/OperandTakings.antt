@@ -19,12 +19,12 @@ use Rattle.grammar_table.specs.declared.stack_symbol.StackSymbol.TheVariants as 
 use Rattle.frame_grammar.specs.Bodies.{body_of}
 use Rattle.grammar_table.specs.Table.{choices_of, default_of}
 use Rattle.grammar_table.specs.Predict.{same_kind}
-use Rattle.frame_parser.specs.Lines.{all_taken, events_at, AreAt}
+use Rattle.known_lines.specs.Lines.{all_taken, events_at, AreAt}
 use Rattle.frame_parser.specs.Operands.{to_come, behind_of}
 use Rattle.grammar_table.specs.Stack.{Between, closes, Takes}
 use Rattle.frame_parser.specs.Parser.{TakesFrom, TakesOn}
 use Rattle.grammar_table.specs.StackSymbols.{symbols_of}
-use Rattle.frame_parser.proofs.LineTakings.{taken_at_once, all_between}
+use Rattle.known_lines.proofs.Takings.{taken_at_once, all_between}
 use Rattle.grammar_table.proofs.Steps.{between_more}
 
 -- What a side begins with

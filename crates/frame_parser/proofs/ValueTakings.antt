@@ -18,7 +18,7 @@ use Rattle.frame_parser.specs.Parser.{StopsFrom, TakesFrom}
 use Rattle.grammar_table.specs.declared.stack_symbol.StackSymbol.{StackSymbol}
 use Rattle.grammar_table.specs.declared.stack_symbol.StackSymbol.TheVariants as waiting
 use Rattle.frame_parser.specs.Values.{rest_of, are_values, in_values, TakesValues}
-use Rattle.frame_parser.proofs.LineTakings.{taken_at_once}
+use Rattle.known_lines.proofs.Takings.{taken_at_once}
 use Rattle.grammar_table.proofs.Steps.{between_more, finds, fault_at}
 
 -- the same in the words of whoever asks

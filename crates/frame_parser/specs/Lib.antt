@@ -3,6 +3,5 @@ pub mod Notes
 -- for this crate's own contracts
 pub mod Parser
 pub mod Shortcuts
-pub mod Lines
 pub mod Values
 pub mod Operands

@@ -8,12 +8,13 @@
 //! memory and no call stack.
 #![tactic(auto)]
 
-mod known_lines;
 mod levels;
 mod lines;
 mod note;
 mod operands;
 mod parser;
+mod phrases;
+mod schedules;
 mod shortcuts;
 mod stack;
 mod statements;

@@ -4,11 +4,16 @@
 //! each of their tokens takes some steps. Here stands what all steps together note. Any other line is taken token by
 //! token.
 
-ghost use Rattle.std.specs.Prelude.{◌≡◌, ◌<◌, ◌≤◌, ◌+◌, ◌^◌, true, false, List, ◌++◌, All, length, map, IfOk};
-ghost use Rattle.frame_parser.specs.Lines.{AreAt, IsLine, events_at, TakesLines};
+ghost use Rattle.std.specs.Prelude.{◌<◌, ◌≤◌, ◌+◌, ◌^◌, length, map, IfOk};
+ghost use Rattle.known_lines.specs.Lines.{IsLine, TakesLines};
 ghost use Rattle.frame_parser.specs.Notes.{events_of};
 
-use crate::known_lines::{
+use crate::note::Note;
+use crate::phrases::note_at;
+use crate::schedules::take_schedule;
+use frame_grammar::{Action as A, HasKind, TokenKind as K};
+use known_lines::are_at;
+use known_lines::statements::{
     ADD, ADD_NOTES, ADD_PAIR, ADD_PAIR_NOTES, ARRAY, ARRAY_NOTES, CLEAR, CLEAR_NOTES, COMPLETE,
     COMPLETE_NOTES, COPY, COPY_NOTES, DISPOSE, DISPOSE_NOTES, EMPTY, EMPTY_NOTES, FLUSH,
     FLUSH_NOTES, FRAME, FRAME_NOTES, LIST, LIST_NOTES, MAP, MAP_NOTES, PRINT, PRINT_NOTES, PUT,
@@ -16,45 +21,7 @@ use crate::known_lines::{
     REMOVE_NOTES, SET, SET_AT, SET_AT_NOTES, SET_CAPACITY, SET_CAPACITY_NOTES, SET_NOTES, SLICE,
     SLICE_NOTES, STREAM, STREAM_NOTES, VIEW, VIEW_NOTES,
 };
-use crate::note::Note;
-use frame_grammar::{Action as A, HasKind, TokenKind as K};
 use std::alloc::AllocError;
-
-/// Whether the tokens from a place on are of these kinds.
-#[inline(always)]
-pub fn are_at<T: HasKind>(kinds: &[K], tokens: &[T], place: usize) -> bool
-    requires { place ≤ length tokens.now }
-    ensures there { result ≡ true → AreAt kinds.now (map T.kind_of tokens.now) place }
-    ensures room { result ≡ true → place + length kinds.now ≤ length tokens.now }
-    ensures absent { result ≡ false → AreAt kinds.now (map T.kind_of tokens.now) place → ⊥ }
-{
-    if tokens.len() - place < kinds.len() {
-        return false;
-    }
-    // A list of the same length, so that its places need no test.
-    let ahead = &tokens[place..place + kinds.len()];
-    for (index, kind) in kinds.iter().enumerate() {
-        if ahead[index].kind() != *kind {
-            return false;
-        }
-    }
-    true
-}
-
-/// Notes these actions, each so many tokens behind a place.
-#[inline(always)]
-pub fn note_at(events: &mut Vec<Note>, notes: &[(A, u32)], place: u32) -> Result<(), AllocError>
-    requires { All (λ note. place + note.1 < 2 ^ 25) notes.now }
-    ensures { IfOk result (λ _. events_of events.new.items ≡ events_of events.old.items ++ events_at place notes.now) }
-{
-    if events.capacity() - events.len() < notes.len() {
-        events.reserve(notes.len())?;
-    }
-    for (action, after) in notes {
-        events.push_reserved(Note::of(*action, place + *after));
-    }
-    Ok(())
-}
 
 /// Takes this line, if it stands at this place. Answers how many tokens it took.
 // In line where the line is a constant, so that nothing of it is looked up in a table.
@@ -148,6 +115,7 @@ fn take_line<T: HasKind>(
         K::Remove => take_if_here(events, tokens, place, &REMOVE, &REMOVE_NOTES),
         K::Clear => take_if_here(events, tokens, place, &CLEAR, &CLEAR_NOTES),
         K::SetCapacity => take_if_here(events, tokens, place, &SET_CAPACITY, &SET_CAPACITY_NOTES),
+        K::Schedule => take_schedule(events, tokens, place),
         K::Complete => take_if_here(events, tokens, place, &COMPLETE, &COMPLETE_NOTES),
         K::Dispose => take_if_here(events, tokens, place, &DISPOSE, &DISPOSE_NOTES),
         K::Print => take_if_here(events, tokens, place, &PRINT, &PRINT_NOTES),

@@ -10,11 +10,12 @@ ghost use Rattle.frame_parser.specs.Operands.{nonterminal_of, to_come, behind_of
 ghost use Rattle.frame_parser.specs.Parser.{TakesOn};
 ghost use Rattle.grammar_table.specs.StackSymbols.{standing};
 
-use crate::lines::{are_at, note_at};
 use crate::note::Note;
+use crate::phrases::note_at;
 use crate::stack::{note, note_both, put};
 use frame_grammar::{Action as A, HasKind, Nonterminal as N, TokenKind as K};
 use grammar_table::StackSymbol::{self, LinedAction, LinedNonterminal};
+use known_lines::are_at;
 use std::alloc::AllocError;
 
 /// A side of an operator or of an assignment, which begins with an operand.

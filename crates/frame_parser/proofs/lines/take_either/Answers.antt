@@ -1,6 +1,6 @@
 use Rattle.std.proofs.Common.{map}
 use Rattle.frame_parser.specs.Notes.{events_of}
-use Rattle.frame_parser.proofs.LineTakings.{then_taken}
+use Rattle.known_lines.proofs.Takings.{then_taken}
 use Rattle.frame_parser.proofs.lines.take_either.Goals as goal
 
 pub returns : goal.returns

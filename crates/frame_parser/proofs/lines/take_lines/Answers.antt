@@ -1,6 +1,6 @@
 use Rattle.std.proofs.Common.{◌+◌, map}
 use Rattle.frame_parser.specs.Notes.{events_of}
-use Rattle.frame_parser.proofs.LineTakings.{more_taken, none_more}
+use Rattle.known_lines.proofs.Takings.{more_taken, none_more}
 use Rattle.frame_parser.proofs.lines.take_lines.Goals as goal
 
 pub returns-then-taken-eq0 : goal.returns-then-taken-eq0

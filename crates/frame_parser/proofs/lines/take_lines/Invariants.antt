@@ -1,5 +1,5 @@
 use Rattle.std.proofs.Common.{◌-◌, length, map}
-use Rattle.frame_parser.specs.Lines.{TakesLines}
+use Rattle.known_lines.specs.Lines.{TakesLines}
 use Rattle.frame_parser.specs.Notes.{events_of}
 use Rattle.frame_parser.proofs.lines.take_lines.Given as goal
 

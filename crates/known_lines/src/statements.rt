@@ -1,4 +1,4 @@
-//! The lines of a script that are known: their tokens, and what is noted of them.
+//! The lines of statements that are known whole: their tokens, and what is noted of them.
 
 use frame_grammar::{Action as A, TokenKind as K};
 

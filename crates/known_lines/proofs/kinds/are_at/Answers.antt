@@ -1,8 +1,8 @@
 use Rattle.std.proofs.Common.{◌≡◌, ◌<◌, ◌+◌, ◌-◌, get_or, drop, length, map, sym, ◌∙◌, arith}
 use Rattle.std.proofs.lemmas.List.{get_or-drop, get_or-take, length-map}
 use Rattle.grammar_table.proofs.Steps.{kinds_same_not, kinds_differ_not}
-use Rattle.frame_parser.proofs.LineTakings.{one_more_there, kind_there, kind_wanted, too_few_there}
-use Rattle.frame_parser.proofs.lines.are_at.Goals as goal
+use Rattle.known_lines.proofs.Takings.{one_more_there, kind_there, kind_wanted, too_few_there}
+use Rattle.known_lines.proofs.kinds.are_at.Goals as goal
 
 pub loop-index-preserved : goal.loop-index-preserved
 loop-index-preserved g c =

@@ -1,7 +1,7 @@
 use Rattle.std.proofs.Common.{◌≡◌, ◌≤◌, ◌+◌, ◌-◌, ◌++◌, length, take}
-use Rattle.frame_parser.specs.Lines.{events_at}
+use Rattle.known_lines.specs.Lines.{events_at}
 use Rattle.frame_parser.specs.Notes.{events_of}
-use Rattle.frame_parser.proofs.lines.note_at.Given as goal
+use Rattle.frame_parser.proofs.phrases.note_at.Given as goal
 
 abbrev pub invariant-loop-action : goal.invariant-loop-action
 invariant-loop-action l = record {

@@ -1,0 +1,3 @@
+-- promises
+pub mod Lines
+pub mod Schedules
