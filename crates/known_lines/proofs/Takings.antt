@@ -41,7 +41,8 @@ token_taken : (j k : TokenKind) (place : ℕ) (s : Symbol) (ss : List Symbol) (l
     → Took k place done0 ss0 done left
 token_taken j k place s ss left done0 done ss0 true same e leads =
     let led = subst (λ x. Leads k place done0 ss0 done (symbol.Terminal x ∷ s ∷ ss)) (kind_is j k same) leads in
-    let step = subst (λ es. Takes k place done0 ss0 es (s ∷ ss)) (sym (append-nil done)) (taken k place done0 done ss0 (s ∷ ss) k true led (λ _. refl) (λ h _. cc)) in
+    let step = subst (λ es. Takes k place done0 ss0 es (s ∷ ss)) (sym (append-nil done))
+    (taken k place done0 done ss0 (s ∷ ss) k true led (λ _. refl) (λ h _. cc)) in
     subst (λ l. Took k place done0 ss0 done l) (same_left e) (step, λ h. cc)
 token_taken j k place s ss left done0 done ss0 false same e leads = cc
 

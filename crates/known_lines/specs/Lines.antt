@@ -62,8 +62,8 @@ acted place (symbol.Terminal k ∷ ss) = Some (record { events = []; stack = sym
 acted place (symbol.Action a ∷ ss) = behind (record { action = a; place = place } ∷ []) (acted place ss)
 acted place (symbol.Nonterminal n ∷ ss) = Some (record { events = []; stack = symbol.Nonterminal n ∷ ss })
 
--- Where the first symbols are on top of the stack, these tokens are taken, of which this is noted, and the others are on
--- top of it then.
+-- Where the first symbols are on top of the stack, these tokens are taken, of which this is noted, and then the others
+-- are on top of it.
 pub record IsPhrase (from to : List Symbol) (kinds : List TokenKind) (notes : List (Action × ℕ)) : Type 0 where
   pub derived : (place : ℕ) (ss : List Symbol) →
       then_with (all_taken kinds 0 place (from ++ ss)) (acted (place + length kinds))
