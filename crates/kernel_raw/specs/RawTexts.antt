@@ -12,6 +12,7 @@ use Rattle.kernel_text.specs.Numbers.{value_of}
 abbrev pub raw_tokens : RawKernel → List Token
 raw_tokens raw = tokens_in raw.source.now raw.line raw.marks.now
 
+-- the kind of a token; where none stands it is the end of the file
 abbrev pub kind_of_token : Option Token → TokenKind
 kind_of_token None = token.End
 kind_of_token (Some t) = t.kind
