@@ -30,8 +30,9 @@ fn number_of(trap: Trap) -> u32
     }
 }
 
-// The trap of a number.
+// The trap of a number by which one is kept.
 fn trap_of(n: u32) -> Trap
+    requires { (trap : Trap) × (n ≡ trap_number trap) }
     ensures { (trap : Trap) → n ≡ trap_number trap → result ≡ trap }
 {
     match n {
@@ -43,12 +44,15 @@ fn trap_of(n: u32) -> Trap
         MISSING_KEY => Trap::MissingKey,
         PRESENT_KEY => Trap::PresentKey,
         WRITTEN => Trap::Written,
-        _ => Trap::Budget,
+        BUDGET => Trap::Budget,
+        _ => unreachable!(),
     }
 }
 
-// What a word that isn't 0 notes.
+// What a word notes of some traps.
 fn notes_in(word: u64) -> Notes
+    requires { (t : ℕ × Trap) × (more : List (ℕ × Trap)) × (word ≡ note_of (t ∷ more))
+        × (length (t ∷ more) ≤ MOST_INDEXES) × (t.0 < MOST_INDEXES) }
     ensures { (t : ℕ × Trap) (more : List (ℕ × Trap)) → word ≡ note_of (t ∷ more) → length (t ∷ more) ≤ MOST_INDEXES
         → t.0 < MOST_INDEXES → IsNoteOf (t ∷ more) result }
 {
@@ -73,6 +77,8 @@ fn word_of(count: u32, index: u32, trap: Trap) -> i64
 /// Reads what a piece's own word says of its traps: the word `cells + p` for piece p.
 pub fn read_notes<M: Mem>(own: u32, mem: &mut M) -> Notes
     requires readable { IsTrue (M.readable mem.old own) }
+    requires told { (traps : List (ℕ × Trap)) × TellsTraps own traps (M.cells mem.old) × (length traps ≤ MOST_INDEXES)
+        × AreIndexesBelow MOST_INDEXES traps }
     ensures note { (traps : List (ℕ × Trap)) → TellsTraps own traps (M.cells mem.old) → length traps ≤ MOST_INDEXES
         → AreIndexesBelow MOST_INDEXES traps → IsNoteOf traps result }
     ensures cells { M.cells mem.new ≡ M.cells mem.old }
