@@ -1,5 +1,5 @@
 -- What the plan grows by at an accepted schedule: the segment at hand is closed and starts the job of the schedule.
-use Rattle.std.proofs.Common.{◌≡◌, ℕ, suc, ◌+◌, ◌-◌, Bool, true, false, ◌&&◌, ◌||◌, eq-eqb, List, [], ◌∷◌, ◌++◌, length, Some, None, refl, sym, ap, subst, ◌∙◌, arith, append-nil}
+use Rattle.std.proofs.Common.{◌≡◌, ℕ, suc, ◌+◌, ◌-◌, Bool, true, false, ◌&&◌, ◌||◌, eq-eqb, List, [], ◌∷◌, ◌++◌, length, Option, Some, None, refl, sym, ap, subst, ◌∙◌, arith, append-nil}
 use Rattle.std.specs.Prelude.{Box, max, nat_eq, slice_get}
 use Rattle.std.specs.declared.alloc.Global.{Global}
 use Rattle.frame_ast.specs.declared.kernel.Kernel.{Kernel}
@@ -82,9 +82,13 @@ module _ (line : ℕ) (home : Box NewJob Global) (asked : NewJob) where
     abbrev s : ScriptState
     s = state_at script table n
 
+    abbrev kept : List (Option ℕ)
+    kept = p.world.works.items
+
     -- The planner closed the segment at hand, and started a job that the schedule is to have.
     pub record HasStarted (segment : Segment) (job : JobPlan) (waited : Jobs) : Type 0 where
       pub store : new.world.store ≡ p.world.store
+      pub works : new.world.works ≡ p.world.works
       pub segments : new.draft.segments.items ≡ p.draft.segments.items ++ segment ∷ []
       pub waits_were : segment.waits.items ≡ p.draft.waits.items
       pub ops_were : segment.ops.items ≡ p.draft.ops.items
@@ -96,7 +100,7 @@ module _ (line : ℕ) (home : Box NewJob Global) (asked : NewJob) where
       pub book : (act g s x).book ≡ with_job s.book waited
       pub job_is : (starts : Starts)
           → StartAs starts found
-          → IsJobOf g starts begun.book.count s waited asked.kernel asked.args.items asked.cut asked.defer asked.waive.items new.draft.kernels.items job
+          → IsJobOf g kept starts begun.book.count s waited asked.kernel asked.args.items asked.cut asked.defer asked.waive.items new.draft.kernels.items job
 
     module _ (none : refusal g s x.act ≡ None) (segment : Segment) (job : JobPlan) (waited : Jobs) (is : HasStarted segment job waited) where
       spans_stay : given_so_far new ≡ given_so_far p
@@ -114,22 +118,22 @@ module _ (line : ℕ) (home : Box NewJob Global) (asked : NewJob) where
       set_is = ap (λ (b : Book). b.deps (suc s.book.count)) is.book ∙ new_set s.book st.knows.known.book waited
 
       job_there : (starts : Starts) → StartAs starts found
-          → HasJobOf g starts begun.book.count s (deps_after g s x) asked.kernel asked.args.items asked.cut asked.defer asked.waive.items
+          → HasJobOf g kept starts begun.book.count s (deps_after g s x) asked.kernel asked.args.items asked.cut asked.defer asked.waive.items
           new.draft.kernels.items
           (slice_get new.draft.jobs.items (s.book.count - begun.book.count))
       job_there starts h =
-          subst (λ o. HasJobOf g starts begun.book.count s (deps_after g s x) asked.kernel asked.args.items asked.cut asked.defer asked.waive.items
+          subst (λ o. HasJobOf g kept starts begun.book.count s (deps_after g s x) asked.kernel asked.args.items asked.cut asked.defer asked.waive.items
           new.draft.kernels.items o) (sym at_place)
-          (subst (λ set. IsJobOf g starts begun.book.count s set asked.kernel asked.args.items asked.cut asked.defer asked.waive.items new.draft.kernels.items
+          (subst (λ set. IsJobOf g kept starts begun.book.count s set asked.kernel asked.args.items asked.cut asked.defer asked.waive.items new.draft.kernels.items
           job) (sym set_is) (is.job_is starts h))
 
       schedules : (starts : Starts) → StartAs starts found
-          → Schedules g starts begun.book.count s (deps_after g s x) s.passing x.act new.draft.kernels.items
+          → Schedules g kept starts begun.book.count s (deps_after g s x) s.passing x.act new.draft.kernels.items
           (slice_get new.draft.jobs.items (s.book.count - begun.book.count))
       schedules starts h =
-          subst (λ passing. Schedules g starts begun.book.count s (deps_after g s x) passing x.act new.draft.kernels.items
+          subst (λ passing. Schedules g kept starts begun.book.count s (deps_after g s x) passing x.act new.draft.kernels.items
           (slice_get new.draft.jobs.items (s.book.count - begun.book.count))) (sym step.acts)
-          (subst (λ o. SchedulesUnless g starts begun.book.count s (deps_after g s x) x.act o new.draft.kernels.items
+          (subst (λ o. SchedulesUnless g kept starts begun.book.count s (deps_after g s x) x.act o new.draft.kernels.items
           (slice_get new.draft.jobs.items (s.book.count - begun.book.count))) (sym none) (job_there starts h))
 
       -- no more is waited for, and no more is completed
@@ -177,6 +181,7 @@ module _ (line : ℕ) (home : Box NewJob Global) (asked : NewJob) where
             jobs_are = is.jobs;
             kernels_later = is.kernels.0;
             kernels_are = is.kernels.1;
+            works = is.works;
             schedules = schedules starts h;
             waited = has_waited;
             awaited = awaited;

@@ -48,6 +48,7 @@ use Rattle.plan_state.specs.declared.state.World.{World}
 use Rattle.plan_state.specs.declared.state.Value.{Value}
 use Rattle.plan_schedules.specs.declared.uses.NamedUse.{NamedUse}
 use Rattle.plan_state.specs.Growth.{StartAs, IsCopyFor, IsJobOf, length_binds, numbers_of, is_none}
+use Rattle.plan_state.specs.Works.{batch_for}
 use Rattle.plan_schedules.specs.Noting.{MayNoteAll, noted_all}
 use Rattle.plan_state.specs.Stands.{AreKernels, AreNames, Agrees, Stands, draft_of}
 use Rattle.plan_schedules.specs.Starting.{IsCutBy}
@@ -118,7 +119,8 @@ module _ (line : ℕ) (home : Box NewJob Global) (asked : NewJob)
         ≡ binds_by y.starts s source.params.items (widths_from source.parallel asked.waive.items 0 source.params.items) asked.args.items
         ++ length_binds y.starts s asked.defer
     pub indexes : run.cut.n ≡ (numbers_of s asked.cut asked.defer).0
-    pub step : run.cut.step ≡ step_of (numbers_of s asked.cut asked.defer).0 (numbers_of s asked.cut asked.defer).1
+    pub step : run.cut.step ≡ step_of (numbers_of s asked.cut asked.defer).0
+        (batch_for p.world.works.items asked.kernel (numbers_of s asked.cut asked.defer).0 (numbers_of s asked.cut asked.defer).1)
     pub parallel : run.parallel ≡ (source.parallel && is_none asked.waive.items)
 
   module _ (none : refusal g s x.act ≡ None) where
@@ -330,7 +332,7 @@ module _ (line : ℕ) (home : Box NewJob Global) (asked : NewJob)
         up_to_all ids k m le h i e lt = let low = h i e lt in omega arith
 
         -- it is the planned job of what it runs
-        pub job_as : (y : Outline) → Agrees as_q g begun found y → (numbers : Option (ℕ × ℕ)) → IsCutBy numbers run.cut → (b : List Bind) (i : ℕ)
+        pub job_as : (y : Outline) → Agrees as_q g begun found y → (numbers : Option (ℕ × ℕ)) → IsCutBy p.world.works.items asked.kernel numbers run.cut → (b : List Bind) (i : ℕ)
             → IsChecked kernel → run.binds.items ≡ b → run.cut.n ≡ i
             → (kernel.parallel ≡ false → (run.cut.n ≡ 1) × (run.cut.step ≡ 1))
             → (run.parallel ≡ true → (kernel.parallel ≡ true) × (asked.waive.items ≡ []))
@@ -408,7 +410,8 @@ module _ (line : ℕ) (home : Box NewJob Global) (asked : NewJob)
           kernels_now = ap (λ (k : Planner). k.draft.kernels.items) q_is
 
           job_of : (starts : Starts) → StartAs starts found
-              → IsJobOf g starts begun.book.count s waited asked.kernel asked.args.items asked.cut asked.defer asked.waive.items q.draft.kernels.items d.job
+              → IsJobOf g p.world.works.items starts begun.book.count s waited asked.kernel asked.args.items asked.cut asked.defer asked.waive.items
+              q.draft.kernels.items d.job
           job_of starts as_found = record {
             source = is.source;
             is_source = is.is_source;
@@ -426,6 +429,7 @@ module _ (line : ℕ) (home : Box NewJob Global) (asked : NewJob)
           has_started : growing.HasStarted line home asked b q d.started.segment d.job waited
           has_started = record {
             store = ap (λ (k : Planner). k.world.store) q_is;
+            works = ap (λ (k : Planner). k.world.works) q_is;
             segments = ap (λ (k : Planner). k.draft.segments.items) q_is ∙ segments_are;
             waits_were = closes.waits_were;
             ops_were = closes.ops_were;

@@ -1,5 +1,6 @@
 pub mod Deferred
 pub mod Arguments
+pub mod Batches
 pub mod CauseNames
 pub mod Choosing
 pub mod Coding

@@ -34,6 +34,7 @@ use Rattle.plan_state.specs.declared.state.Draft.{Draft}
 use Rattle.plan_state.specs.declared.state.Planner.{Planner}
 use Rattle.plan_schedules.specs.declared.uses.NamedUse.{NamedUse}
 use Rattle.plan_state.specs.Growth.{is_none}
+use Rattle.plan_state.specs.Works.{batch_for}
 use Rattle.plan_schedules.specs.JobBinds.{job_binds}
 use Rattle.plan_schedules.specs.Noting.{MayNoteAll}
 use Rattle.plan_state.specs.Stands.{Agrees, draft_of}
@@ -51,6 +52,7 @@ use Rattle.plan_schedules.proofs.JobStarted.{HasPlace}
 use Rattle.plan_schedules.proofs.Meaning.{uses_meant}
 use Rattle.plan_schedules.proofs.Notes.{needs, AreApart, args_apart}
 use Rattle.plan_schedules.proofs.Grown.{none_waived}
+use Rattle.plan_schedules.proofs.Batches.{batch_of_one}
 use Rattle.plan_schedules.proofs.Scheduled.{numbers_are, indexes_are, no_cut}
 use Rattle.plan_schedules.proofs.Taken.{IsScheduled, placed}
 use Rattle.plan_schedules.proofs.Texts as texts
@@ -189,7 +191,7 @@ module _ (line : ℕ) (home : Box NewJob Global) (asked : NewJob)
             ∙ args_are st y a None text.source.parallel asked.waive.items 0 ps asked.args.items names_below args_fit
             ∙ sym (append-nil (binds_by y.starts s ps (widths_from text.source.parallel asked.waive.items 0 ps) asked.args.items));
         indexes = r.cut_by.indexes ∙ ap (λ (c : ℕ × ℕ). c.0) (numbers_are s asked.cut);
-        step = r.cut_by.step ∙ ap (λ (c : ℕ × ℕ). step_of c.0 c.1) (numbers_are s asked.cut);
+        step = r.cut_by.step ∙ ap (λ (c : ℕ × ℕ). step_of c.0 (batch_for p.world.works.items asked.kernel c.0 c.1)) (numbers_are s asked.cut);
         parallel = r.parallel ∙ ap (λ (k : Kernel). k.parallel && is_none asked.waive.items) source_same;
       }
 
@@ -212,8 +214,12 @@ module _ (line : ℕ) (home : Box NewJob Global) (asked : NewJob)
           (copy_binds y (back y a))
           (r.cut_by.indexes ∙ indexes_are s text.source.parallel asked.cut text.one ∙ ap (λ b. executes b (job_length s asked.cut None)) copy.same.parallel)
           (λ seq.
-          let none = no_cut text.source.parallel asked.cut text.one (copy.same.parallel ∙ seq) in
-          (r.cut_by.indexes ∙ ap (λ c. (numbers_by c).0) none, r.cut_by.step ∙ ap (λ c. step_of (numbers_by c).0 (numbers_by c).1) none))
+          let none = no_cut text.source.parallel asked.cut text.one (copy.same.parallel ∙ seq) in (
+            r.cut_by.indexes ∙ ap (λ c. (numbers_by c).0) none,
+            r.cut_by.step
+                ∙ ap (λ c. step_of (numbers_by c).0 (batch_for p.world.works.items asked.kernel (numbers_by c).0 (numbers_by c).1)) none
+                ∙ ap (step_of 1) (batch_of_one p.world.works.items asked.kernel),
+          ))
           (λ par.
           let both = and_parts r.source.parallel (is_none asked.waive.items) (sym r.parallel ∙ par) in
           (sym copy.same.parallel ∙ ap (λ (k : Kernel). k.parallel) (sym source_same) ∙ both.0, none_waived asked.waive.items both.1)))

@@ -122,5 +122,5 @@ pub record IsGuardedRun (script : Script) (w : World) (kernel : ℕ) (args : Lis
   pub guarded : run.guarded ≡ true
   pub binds : run.binds.items
       ≡ job_binds w source.parallel waive 0 source.params.items args ++ word_at at.start ∷ []
-  pub cut_by : IsCutBy (Some (at.cap, batch)) run.cut
+  pub cut_by : IsCutBy w.works.items kernel (Some (at.cap, batch)) run.cut
   pub parallel : run.parallel ≡ (source.parallel && is_none waive)

@@ -33,6 +33,7 @@ use Rattle.plan_state.specs.declared.state.World.{World}
 use Rattle.plan_schedules.specs.declared.uses.NamedUse.{NamedUse}
 use Rattle.plan_state.specs.Accesses.{HasHandle}
 use Rattle.plan_state.specs.Growth.{is_none}
+use Rattle.plan_state.specs.Works.{batch_for}
 use Rattle.plan_schedules.specs.JobBinds.{job_binds}
 use Rattle.plan_schedules.specs.Noting.{noted_all}
 
@@ -57,10 +58,12 @@ abbrev pub numbers_by : Option (ℕ × ℕ) → ℕ × ℕ
 numbers_by None = (1, 1)
 numbers_by (Some cut) = cut
 
--- The cut that `cut` gives for a schedule's two numbers; without them it is that of one index.
-pub record IsCutBy (given : Option (ℕ × ℕ)) (cut : Cut) : Type 0 where
+-- The cut that `cut` gives for a schedule's two numbers; without them it is that of one index. A job of little work is
+-- one piece, by what is kept of the work of kernels.
+pub record IsCutBy (works : List (Option ℕ)) (kernel : ℕ) (given : Option (ℕ × ℕ)) (cut : Cut) : Type 0 where
   pub indexes : cut.n ≡ (numbers_by given).0
-  pub step : cut.step ≡ step_of (numbers_by given).0 (numbers_by given).1
+  pub step : cut.step ≡ step_of (numbers_by given).0
+      (batch_for works kernel (numbers_by given).0 (numbers_by given).1)
   -- so it has few pieces, none of them too large
   pub few : cut.n ≤ MOST_INDEXES
   pub steps : (1 ≤ cut.step) × (cut.step ≤ MOST_INDEXES)
@@ -79,7 +82,7 @@ pub record IsPlainRun (script : Script) (w : World) (kernel : ℕ) (args : List 
   pub kernel_is : run.kernel ≡ kernel
   pub plain : run.guarded ≡ false
   pub binds : run.binds.items ≡ job_binds w source.parallel waive 0 source.params.items args
-  pub cut_by : IsCutBy cut run.cut
+  pub cut_by : IsCutBy w.works.items kernel cut run.cut
   pub parallel : run.parallel ≡ (source.parallel && is_none waive)
 
 -- The books have a job: the book of jobs has it, the safety book has its uses, and its handle's name stands for it.

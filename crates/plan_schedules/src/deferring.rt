@@ -18,6 +18,7 @@ ghost use Rattle.plan_schedules.specs.Uses.{AreNamesBelow};
 use crate::accepting::{Run, add_job};
 use crate::deferred_uses::{deferred_refusal, length_use, list_at, noted_uses, with_length};
 use crate::job_binds::job_binds;
+use crate::new_job::cut_of;
 use crate::scheduling::{add_automatic, is_split, refuse_schedule};
 use crate::uses::uses;
 use frame_ast::kernel::Kernel;
@@ -151,7 +152,7 @@ fn guarded_run(
         kernel,
         guarded: true,
         binds,
-        cut: batch_cut::cut(at.cap, defer.1),
+        cut: cut_of(&world.works, kernel, Some((at.cap, defer.1))),
         parallel: is_split(of.parallel, waive),
     })
 }

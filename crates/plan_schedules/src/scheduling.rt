@@ -163,7 +163,7 @@ fn plain_run(
         kernel,
         guarded: false,
         binds,
-        cut: cut_of(cut),
+        cut: cut_of(&world.works, kernel, cut),
         parallel: is_split(of.parallel, waive),
     })
 }

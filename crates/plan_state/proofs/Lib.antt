@@ -2,6 +2,7 @@ pub mod Accessing
 pub mod Answering
 pub mod Binding
 pub mod CopiesMade
+pub mod Loops
 pub mod Naming
 pub mod Outlining
 pub mod Quiet

@@ -127,23 +127,24 @@ IsNoSchedule _ = Unit {0}
 abbrev pub IsPlain : Setting → Order → Type 0
 IsPlain g x = (takes_words g x ≡ None) × IsNoSchedule x
 
-module _ (g : Setting) (starts : Starts) (before : ℕ) (s : ScriptState) (deps : Jobs) (kernels : List Kernel) (place : Option JobPlan) where
-  none_scheduled : (x : Order) (o : Option Refused) → IsNoSchedule x → SchedulesUnless g starts before s deps x o kernels place
+module _ (g : Setting) (works : List (Option ℕ)) (starts : Starts) (before : ℕ) (s : ScriptState) (deps : Jobs) (kernels : List Kernel)
+    (place : Option JobPlan) where
+  none_scheduled : (x : Order) (o : Option Refused) → IsNoSchedule x → SchedulesUnless g works starts before s deps x o kernels place
   none_scheduled (Schedule job) o h = absurd h
   none_scheduled x o h = tt
 
-  unscheduled : (x : Order) (r : Refused) → SchedulesUnless g starts before s deps x (Some r) kernels place
+  unscheduled : (x : Order) (r : Refused) → SchedulesUnless g works starts before s deps x (Some r) kernels place
   unscheduled (Schedule job) r = tt
   unscheduled x r = tt
 
-  pub plain_schedules : (x : Order) (k : ℕ) → IsNoSchedule x → Schedules g starts before s deps k x kernels place
+  pub plain_schedules : (x : Order) (k : ℕ) → IsNoSchedule x → Schedules g works starts before s deps k x kernels place
   plain_schedules x zero h = none_scheduled x (refusal g s x) h
   plain_schedules x (suc k) h = tt
 
-  refused_schedules : (x : Order) (r : Refused) → s.passing ≡ 0 → refusal g s x ≡ Some r → Schedules g starts before s deps s.passing x kernels place
+  refused_schedules : (x : Order) (r : Refused) → s.passing ≡ 0 → refusal g s x ≡ Some r → Schedules g works starts before s deps s.passing x kernels place
   refused_schedules x r acts e =
-      subst (λ k. Schedules g starts before s deps k x kernels place) (sym acts)
-      (subst (λ o. SchedulesUnless g starts before s deps x o kernels place) (sym e) (unscheduled x r))
+      subst (λ k. Schedules g works starts before s deps k x kernels place) (sym acts)
+      (subst (λ o. SchedulesUnless g works starts before s deps x o kernels place) (sym e) (unscheduled x r))
 
 module _ (g : Setting) (before : ℕ) (s : ScriptState) (segments : List Segment) where
   none_awaited : (x : Order) (o : Option Refused) → IsNoSchedule x → AwaitsUnless before s x o segments
@@ -186,6 +187,7 @@ module _ (g : Setting) (starts : Starts) (s : ScriptState) (x : Order) where
 pub record IsQuiet (old new : Planner) : Type 0 where
   pub spans : given_so_far new ≡ given_so_far old
   pub peak : peak_of new.world.store ≡ peak_of old.world.store
+  pub works : new.world.works ≡ old.world.works
   pub jobs : new.draft.jobs.items ≡ old.draft.jobs.items
   pub kernels : new.draft.kernels.items ≡ old.draft.kernels.items
   pub segments : new.draft.segments.items ≡ old.draft.segments.items
@@ -195,6 +197,7 @@ pub record IsQuiet (old new : Planner) : Type 0 where
 pub record IsStill (g : Setting) (s : ScriptState) (x : Statement) (before : ℕ) (old new : Planner) : Type 0 where
   pub spans : given_so_far new ≡ given_so_far old
   pub peak : peak_of new.world.store ≡ peak_of old.world.store
+  pub works : new.world.works ≡ old.world.works
   pub jobs : new.draft.jobs.items ≡ old.draft.jobs.items
   pub kernels : new.draft.kernels.items ≡ old.draft.kernels.items
   pub segments_later : List Segment
@@ -207,6 +210,7 @@ pub quiet_still : (g : Setting) (s : ScriptState) (x : Statement) (before : ℕ)
 quiet_still g s x before old new quiet completed = record {
   spans = quiet.spans;
   peak = quiet.peak;
+  works = quiet.works;
   jobs = quiet.jobs;
   kernels = quiet.kernels;
   segments_later = [];
@@ -220,11 +224,14 @@ quiet_still g s x before old new quiet completed = record {
 }
 
 module _ (g : Setting) (s : ScriptState) (x : Statement) (starts : Starts) (before : ℕ) (old new : Planner) (still : IsStill g s x before old new) where
+  abbrev works : List (Option ℕ)
+  works = old.world.works.items
+
   abbrev place : Option JobPlan
   place = slice_get new.draft.jobs.items (s.book.count - before)
 
   grown : Takes g starts s s.passing x.act → span_by g starts s s.passing x.act ≡ []
-      → Schedules g starts before s (deps_after g s x) s.passing x.act new.draft.kernels.items place
+      → Schedules g works starts before s (deps_after g s x) s.passing x.act new.draft.kernels.items place
       → Awaits g before s s.passing x.act new.draft.segments.items
       → Grows g s x starts before old new
   grown fit none schedules awaits = record {
@@ -238,6 +245,7 @@ module _ (g : Setting) (s : ScriptState) (x : Statement) (starts : Starts) (befo
     jobs_are = still.jobs ∙ sym (append-nil old.draft.jobs.items);
     kernels_later = [];
     kernels_are = still.kernels ∙ sym (append-nil old.draft.kernels.items);
+    works = still.works;
     schedules = schedules;
     waited = still.waited;
     awaited = λ h. awaits;
@@ -247,7 +255,7 @@ module _ (g : Setting) (s : ScriptState) (x : Statement) (starts : Starts) (befo
   pub plain_grows : IsPlain g x.act → Grows g s x starts before old new
   plain_grows plain =
       grown (plain_takes g starts s x.act s.passing plain.0) (plain_span g starts s x.act s.passing plain.0)
-      (plain_schedules g starts before s (deps_after g s x) new.draft.kernels.items place x.act s.passing plain.1)
+      (plain_schedules g works starts before s (deps_after g s x) new.draft.kernels.items place x.act s.passing plain.1)
       (plain_awaits g before s new.draft.segments.items x.act s.passing plain.1)
 
   pub refused_grows : (r : Refused) → s.passing ≡ 0 → refusal g s x.act ≡ Some r → Grows g s x starts before old new
@@ -255,7 +263,7 @@ module _ (g : Setting) (s : ScriptState) (x : Statement) (starts : Starts) (befo
       grown
       (subst (λ k. Takes g starts s k x.act) (sym acts) (subst (TakesUnless g starts s x.act) (sym e) tt))
       (ap (λ k. span_by g starts s k x.act) acts ∙ ap (span_unless g starts s x.act) e)
-      (refused_schedules g starts before s (deps_after g s x) new.draft.kernels.items place x.act r acts e)
+      (refused_schedules g works starts before s (deps_after g s x) new.draft.kernels.items place x.act r acts e)
       (refused_awaits g before s new.draft.segments.items x.act r acts e)
 
   -- one that is passed by
@@ -264,7 +272,7 @@ module _ (g : Setting) (s : ScriptState) (x : Statement) (starts : Starts) (befo
       grown
       (subst (λ k. Takes g starts s k x.act) (sym e) tt)
       (ap (λ k. span_by g starts s k x.act) e)
-      (subst (λ k. Schedules g starts before s (deps_after g s x) k x.act new.draft.kernels.items place) (sym e) tt)
+      (subst (λ k. Schedules g works starts before s (deps_after g s x) k x.act new.draft.kernels.items place) (sym e) tt)
       (subst (λ k. Awaits g before s k x.act new.draft.segments.items) (sym e) tt)
 
 -- A STATEMENT THAT ADDS NOTHING goes on.

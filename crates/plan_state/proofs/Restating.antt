@@ -258,6 +258,7 @@ quiet_restated p q s t r same =
     record {
       spans = λ i. given_from (segments i) ++ same i;
       peak = ap (λ (k : Planner). peak_of k.world.store) r.planner;
+      works = ap (λ (k : Planner). k.world.works) r.planner;
       jobs = ap (λ (k : Planner). k.draft.jobs.items) r.planner;
       kernels = ap (λ (k : Planner). k.draft.kernels.items) r.planner;
       segments = segments;

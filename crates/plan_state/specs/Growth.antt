@@ -35,6 +35,7 @@ use Rattle.plan_laws.specs.Binds.{binds_by}
 use Rattle.plan_laws.specs.Ledgers.{later}
 use Rattle.defer_laws.specs.Deferring.{capacity_of, length_bind}
 use Rattle.plan_state.specs.declared.state.Planner.{Planner}
+use Rattle.plan_state.specs.Works.{batch_for}
 
 -- RANGES
 
@@ -101,10 +102,11 @@ abbrev pub is_none : {A : Type 0} → List A → Bool
 is_none [] = true
 is_none (x ∷ more) = false
 
--- The job of an accepted schedule, in a section before which there were so many jobs.
-pub record IsJobOf (g : Setting) (starts : Starts) (before : ℕ) (s : ScriptState) (set : Jobs) (kernel : ℕ)
-    (args : List Arg) (cut defer : Option (ℕ × ℕ)) (waive : List ℕ) (kernels : List Kernel) (job : JobPlan)
-    : Type 0 where
+-- The job of an accepted schedule, in a section before which there were so many jobs, by what is kept of the work of
+-- kernels.
+pub record IsJobOf (g : Setting) (works : List (Option ℕ)) (starts : Starts) (before : ℕ) (s : ScriptState)
+    (set : Jobs) (kernel : ℕ) (args : List Arg) (cut defer : Option (ℕ × ℕ)) (waive : List ℕ) (kernels : List Kernel)
+    (job : JobPlan) : Type 0 where
   pub source : Kernel
   pub is_source : slice_get g.kernels kernel ≡ Some source
   pub copy : Kernel
@@ -114,35 +116,37 @@ pub record IsJobOf (g : Setting) (starts : Starts) (before : ℕ) (s : ScriptSta
   pub binds : job.binds.items
       ≡ binds_by starts s source.params.items (widths_from source.parallel waive 0 source.params.items) args
       ++ length_binds starts s defer
-  -- its cut
+  -- its cut: where it is of little work, it is one piece
   pub indexes : job.cut.n ≡ (numbers_of s cut defer).0
-  pub step : job.cut.step ≡ step_of (numbers_of s cut defer).0 (numbers_of s cut defer).1
+  pub step : job.cut.step ≡ step_of (numbers_of s cut defer).0
+      (batch_for works kernel (numbers_of s cut defer).0 (numbers_of s cut defer).1)
   -- its pieces may run at once where the kernel is parallel and nothing is waived
   pub parallel : job.parallel ≡ (source.parallel && is_none waive)
   -- exactly its dependency set, by the numbers of the section
   pub deps : (j : ℕ) → has_job job.deps.items j ≡ later before set j
 
 -- there is such a job at a place
-abbrev pub HasJobOf : Setting → Starts → ℕ → ScriptState → Jobs → ℕ → List Arg → Option (ℕ × ℕ) → Option (ℕ × ℕ)
-    → List ℕ → List Kernel → Option JobPlan → Type 0
-HasJobOf g starts before s deps kernel args cut defer waive kernels None = ⊥
-HasJobOf g starts before s deps kernel args cut defer waive kernels (Some job) =
-    IsJobOf g starts before s deps kernel args cut defer waive kernels job
+abbrev pub HasJobOf : Setting → List (Option ℕ) → Starts → ℕ → ScriptState → Jobs → ℕ → List Arg → Option (ℕ × ℕ)
+    → Option (ℕ × ℕ) → List ℕ → List Kernel → Option JobPlan → Type 0
+HasJobOf g works starts before s deps kernel args cut defer waive kernels None = ⊥
+HasJobOf g works starts before s deps kernel args cut defer waive kernels (Some job) =
+    IsJobOf g works starts before s deps kernel args cut defer waive kernels job
 
-abbrev pub SchedulesUnless : Setting → Starts → ℕ → ScriptState → Jobs → Order → Option Refused → List Kernel
-    → Option JobPlan → Type 0
-SchedulesUnless g starts before s deps (Schedule job) None kernels place =
+abbrev pub SchedulesUnless : Setting → List (Option ℕ) → Starts → ℕ → ScriptState → Jobs → Order → Option Refused
+    → List Kernel → Option JobPlan → Type 0
+SchedulesUnless g works starts before s deps (Schedule job) None kernels place =
     let j = job.value in
-    HasJobOf g starts before s deps j.kernel j.args.items j.cut j.defer j.waive.items kernels place
-SchedulesUnless g starts before s deps (Schedule job) (Some r) kernels place =
+    HasJobOf g works starts before s deps j.kernel j.args.items j.cut j.defer j.waive.items kernels place
+SchedulesUnless g works starts before s deps (Schedule job) (Some r) kernels place =
     Unit {0}
-SchedulesUnless g starts before s deps _ refused kernels place = Unit {0}
+SchedulesUnless g works starts before s deps _ refused kernels place = Unit {0}
 
 -- an accepted schedule that isn't passed by has its job at a place among the plan's
-abbrev pub Schedules : Setting → Starts → ℕ → ScriptState → Jobs → ℕ → Order → List Kernel → Option JobPlan → Type 0
-Schedules g starts before s deps zero order kernels place =
-    SchedulesUnless g starts before s deps order (refusal g s order) kernels place
-Schedules g starts before s deps (suc more) order kernels place = Unit {0}
+abbrev pub Schedules : Setting → List (Option ℕ) → Starts → ℕ → ScriptState → Jobs → ℕ → Order → List Kernel
+    → Option JobPlan → Type 0
+Schedules g works starts before s deps zero order kernels place =
+    SchedulesUnless g works starts before s deps order (refusal g s order) kernels place
+Schedules g works starts before s deps (suc more) order kernels place = Unit {0}
 
 -- the dependency set of the job that a statement schedules, as the script has it afterwards
 abbrev pub deps_after : Setting → ScriptState → Statement → Jobs
@@ -230,8 +234,9 @@ pub record Grows (g : Setting) (s : ScriptState) (x : Statement) (starts : Start
   pub jobs_are : new.draft.jobs.items ≡ old.draft.jobs.items ++ jobs_later
   pub kernels_later : List Kernel
   pub kernels_are : new.draft.kernels.items ≡ old.draft.kernels.items ++ kernels_later
-  -- the next job is the one that is scheduled
-  pub schedules : Schedules g starts before s (deps_after g s x) s.passing x.act new.draft.kernels.items
+  -- what is kept of the work of kernels stays, and the next job is the one that is scheduled
+  pub works : new.world.works ≡ old.world.works
+  pub schedules : Schedules g old.world.works.items starts before s (deps_after g s x) s.passing x.act new.draft.kernels.items
       (slice_get new.draft.jobs.items (s.book.count - before))
   -- what was waited for stays what is completed, and the next job is started after just that
   pub waited : HasWaited before s old → HasWaited before (act g s x) new

@@ -1,5 +1,6 @@
 -- promises
 pub mod Growth
+pub mod Works
 -- for the contracts of this crate and of those above it
 pub mod Stands
 pub mod Steps

@@ -14,6 +14,9 @@
 //! now, another value for a name. The statements themselves are functions over a world, in `plan_statements` and in
 //! `plan_schedules`.
 //!
+//! How much work an index of a kernel is, is known where no statement repeats others (`works`). Where it is kept, a job
+//! of little work is one piece (`specs/Works`).
+//!
 //! *Cost.* A look costs the same whatever was made or scheduled before, but for the jobs of several names, which are
 //! sets of 4,096 bits. The kernels that jobs run are copied and compiled once (`copies`).
 #![tactic(auto)]
@@ -25,8 +28,10 @@ mod copies;
 mod draft;
 mod start;
 mod state;
+mod works;
 
 pub use answer::Answer;
 pub use blocked::refusal_of_blocked;
 pub use start::{JobAnswer, Start};
 pub use state::{Container, Draft, PlanFault, Planner, Value, World};
+pub use works::{SMALL_WORK, work_of};

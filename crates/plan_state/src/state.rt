@@ -141,6 +141,9 @@ pub struct World {
     pub created: u32,
     // How many of the next statements are passed by.
     pub passing: u32,
+    // By the script's kernels: how much work an index is, where that is known. Empty where each job is cut as its
+    // schedule says. No statement changes it.
+    pub works: Vec<Option<u32>>,
 }
 
 /// What the script's thread knows, and the draft of the plan. A statement changes the one, and what it answers changes

@@ -36,6 +36,7 @@ use Rattle.plan_state.specs.declared.state.Planner.{Planner}
 use Rattle.plan_schedules.specs.declared.uses.NamedUse.{NamedUse}
 use Rattle.plan_schedules.specs.Deferring.{IsLengthUse, IsListName, IsGuardedRun, noted_uses, with_length, by_list}
 use Rattle.plan_state.specs.Growth.{is_none}
+use Rattle.plan_state.specs.Works.{batch_for}
 use Rattle.plan_schedules.specs.JobBinds.{job_binds}
 use Rattle.plan_schedules.specs.Noting.{MayNoteAll}
 use Rattle.plan_state.specs.Stands.{Agrees, draft_of}
@@ -235,7 +236,7 @@ module _ (line : ℕ) (home : Box NewJob Global) (asked : NewJob) (list batch : 
         copied = copy.guards.guarded;
         binds = binds_are;
         indexes = indexes_are;
-        step = r.cut_by.step ∙ ap (λ cap. step_of cap batch) (ap (λ (w : ListAt). w.cap) same_at ∙ the_list.cap);
+        step = r.cut_by.step ∙ ap (λ cap. step_of cap (batch_for p.world.works.items asked.kernel cap batch)) (ap (λ (w : ListAt). w.cap) same_at ∙ the_list.cap);
         parallel = r.parallel;
       }
 

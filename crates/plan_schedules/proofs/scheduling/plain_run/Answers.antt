@@ -1,4 +1,5 @@
-use Rattle.std.proofs.Common.{refl}
+use Rattle.std.proofs.Common.{refl, subst}
+use Rattle.plan_schedules.specs.Starting.{IsCutBy}
 use Rattle.plan_state.proofs.Accessing.{read_some}
 use Rattle.plan_schedules.proofs.scheduling.plain_run.Goals as goal
 
@@ -9,6 +10,6 @@ returns c = record {
   kernel_is = refl;
   plain = refl;
   binds = c.in_ok-binds.ensures;
-  cut_by = c.cut_of.ensures;
+  cut_by = subst (λ works. IsCutBy works c.args.kernel c.args.cut c.cut_of.result) c.deref.ensures.value c.cut_of.ensures;
   parallel = c.is_split.ensures;
 }
