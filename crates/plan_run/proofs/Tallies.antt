@@ -100,17 +100,32 @@ module _ (plan : Plan) (p : ℕ) (lt : p < job_pieces plan) where
         let n = of_job plan p lt in
         subst (λ (y : Piece). length (piece_run plan y) ≤ MOST_INDEXES) (sym n.2) (traps_are_told plan well n.0 n.1 (is_piece n.0 n.1 n.2)).few
 
-    pub told_piece : (own : ℕ) (cells : Cells) (notes : Notes) → own ≡ plan.cells + p → TellAll plan cells
-        → ((traps : List (ℕ × Trap)) → TellsTraps own traps cells → length traps ≤ MOST_INDEXES → AreIndexesBelow MOST_INDEXES traps → IsNoteOf traps notes)
-        → NotesPiece plan p notes
-    told_piece own cells notes at tells f =
+    -- the own word of the piece notes the traps that it has in the run in script order
+    own_told : (own : ℕ) (cells : Cells) → own ≡ plan.cells + p → TellAll plan cells
+        → let traps = piece_run plan (piece_numbered plan p) in
+        TellsTraps own traps cells × (length traps ≤ MOST_INDEXES) × AreIndexesBelow MOST_INDEXES traps
+    own_told own cells at tells =
         let n = of_job plan p lt in
         let is = is_piece n.0 n.1 n.2 in
         let told = traps_are_told plan well n.0 n.1 is in
         let number : p ≡ number_of plan (OfJob n.0 n.1) = (number_numbered plan p (omega (arith, lt))).number ∙ ap (number_of plan) n.2 in
         let same : own ≡ own_word plan n.0 n.1 = at ∙ ap (λ k. plan.cells + k) number in
         let here = subst (λ k. TellsTraps k (piece_run plan (OfJob n.0 n.1)) cells) (sym same) (tells n.0 n.1 is) in
-        subst (λ (y : Piece). IsNoteOf (piece_run plan y) notes) (sym n.2) (f (piece_run plan (OfJob n.0 n.1)) here told.few told.below)
+        subst (λ (y : Piece). TellsTraps own (piece_run plan y) cells × (length (piece_run plan y) ≤ MOST_INDEXES)
+        × AreIndexesBelow MOST_INDEXES (piece_run plan y)) (sym n.2) (here, told.few, told.below)
+
+    pub told_there : (own : ℕ) (cells : Cells) → own ≡ plan.cells + p → TellAll plan cells
+        → (traps : List (ℕ × Trap)) × TellsTraps own traps cells × (length traps ≤ MOST_INDEXES)
+        × AreIndexesBelow MOST_INDEXES traps
+    told_there own cells at tells =
+        let told = own_told own cells at tells in (piece_run plan (piece_numbered plan p), told.0, told.1, told.2)
+
+    pub told_piece : (own : ℕ) (cells : Cells) (notes : Notes) → own ≡ plan.cells + p → TellAll plan cells
+        → ((traps : List (ℕ × Trap)) → TellsTraps own traps cells → length traps ≤ MOST_INDEXES → AreIndexesBelow MOST_INDEXES traps → IsNoteOf traps notes)
+        → NotesPiece plan p notes
+    told_piece own cells notes at tells f =
+        let told = own_told own cells at tells in
+        f (piece_run plan (piece_numbered plan p)) told.0 told.1 told.2
 
 pub all_counted : (plan : Plan) (p : ℕ) (report : Report) → p ≡ job_pieces plan → IsReportOf (first_traps plan p) report → IsReportOf (plan_traps plan) report
 all_counted plan p report e h = subst (λ (l : List JobTrap). IsReportOf l report) (ap (first_traps plan) e ∙ sym (traps_come_by_number plan)) h
