@@ -15,7 +15,7 @@ use Rattle.kernel_code.specs.declared.check.names.Named.TheVariants.{Parameter, 
 use Rattle.kernel_code.specs.StaticFaults.{nodes_fault}
 use Rattle.kernel_raw.specs.RawTexts.{kind_at, value_at}
 use Rattle.kernel_code.specs.Known.{meanings_from, number_named}
-use Rattle.kernel_code.specs.Trees.{Joint, Both, Either, By, ExprOf, BlockOf, is_minus}
+use Rattle.kernel_code.specs.Trees.{Joint, Both, Either, By, Neither, ExprOf, BlockOf, is_minus}
 
 -- FORMS THAT TREES HAVE
 
@@ -122,6 +122,7 @@ abbrev pub IsJoint : Joint → Expr → Expr → Expr → Type 0
 IsJoint Both y z x = (p : _) × (x ≡ And' p y z)
 IsJoint Either y z x = (p : _) × (x ≡ Or' p y z)
 IsJoint (By op) y z x = (p : _) × (x ≡ Binary' op p y z)
+IsJoint Neither y z x = ⊥
 
 -- STATEMENTS
 

@@ -27,8 +27,9 @@ use Rattle.kernel_raw.specs.declared.raw.RawKernel.{RawKernel}
 use Rattle.kernel_code.specs.declared.check.names.Named.{Named}
 use Rattle.kernel_code.specs.declared.check.names.Named.TheVariants.{Parameter, Variable, LoopVariable}
 use Rattle.kernel_code.specs.declared.check.StaticFault.{StaticFault}
-use Rattle.kernel_raw.specs.RawTexts.{text_at, line_at, value_at, depth_at}
+use Rattle.kernel_raw.specs.RawTexts.{kind_at, text_at, line_at, value_at, depth_at}
 use Rattle.kernel_code.specs.Scopes.{meaning_of, locals_before, is_begun}
+use Rattle.kernel_code.specs.Trees.{joins}
 
 -- WHAT FORMS NEED
 
@@ -143,10 +144,12 @@ declared_fault raw i text =
     lowest (some_if (is_some (meaning_of raw i text)) DuplicateName)
     (lowest (some_if (nat_le MOST_LOCALS (length (locals_before raw.nodes.items i))) Limit) (length_fault text))
 
--- what a node's own token says, its number and depth aside
+-- What a node's own token says, its number and depth aside. By the grammar each operator between two sides joins them;
+-- a token that doesn't is what a text without a derivation has, a fault of syntax.
 abbrev pub token_fault : RawKernel → ℕ → ℕ → RawForm → Option FaultKind
 token_fault raw i at form.Number = some_if (nat_lt 9223372036854775807 (value_at raw at)) Limit
 token_fault raw i at form.Index = some_if (not raw.parallel) UnknownName
+token_fault raw i at form.Binary = some_if (not (joins (kind_at raw at))) Syntax
 token_fault raw i at form.SetTryAdd =
     lowest (answer_fault raw (meaning_of raw i (text_at raw at))) (length_fault (text_at raw at))
 token_fault raw i at form.SetRemove =

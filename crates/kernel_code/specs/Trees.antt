@@ -1,6 +1,6 @@
 -- The kernel that a raw kernel without faults is: the same tree, with numbers by their value and names by what they are
 -- where they stand.
-use Rattle.std.specs.Prelude.{◌≡◌, ℕ, ◌+◌, pos, Bool, true, false, List, [], ◌∷◌, length, map, Option, Some, None, unwrap_or}
+use Rattle.std.specs.Prelude.{◌≡◌, ℕ, ◌+◌, pos, Bool, true, false, List, [], ◌∷◌, length, map, Option, Some, None}
 use Rattle.std.specs.String.{string_bytes}
 use Rattle.job_base.specs.declared.Access.{Access}
 use Rattle.frame_grammar.specs.declared.token_kind.TokenKind.{TokenKind}
@@ -46,17 +46,29 @@ operator_of token.Slash = Some operator.Divide
 operator_of token.Percent = Some operator.Remainder
 operator_of _ = None
 
--- what joins two sides: `&&`, `||`, or an operator that evaluates both
+-- what joins two sides: `&&`, `||`, or an operator that evaluates both; any other token joins neither to the other
 pub data Joint : Type 0 where
   Both : Joint
   Either : Joint
   By : Operator → Joint
+  Neither : Joint
 
--- by the grammar no other token joins two sides; one would count as `%`
+abbrev pub joint_by : Option Operator → Joint
+joint_by None = Neither
+joint_by (Some op) = By op
+
 abbrev pub joint_of : TokenKind → Joint
 joint_of token.AndAnd = Both
 joint_of token.OrOr = Either
-joint_of kind = By (unwrap_or (operator_of kind) operator.Remainder)
+joint_of kind = joint_by (operator_of kind)
+
+abbrev pub is_joint : Joint → Bool
+is_joint Neither = false
+is_joint _ = true
+
+-- whether a token joins two sides
+abbrev pub joins : TokenKind → Bool
+joins kind = is_joint (joint_of kind)
 
 -- NAMES
 

@@ -1,5 +1,7 @@
 -- Expressions from the nodes that stand behind each other.
-use Rattle.std.proofs.Common.{ℕ, zero, suc, ◌≡◌, ◌≤◌, ◌<◌, ◌+◌, ◌-◌, false, IsTrue, List, [], ◌∷◌, Option, Some, None, slice_get, length, cond, refl, ap, sym, subst, ◌∙◌, arith}
+use Rattle.std.proofs.Common.{ℕ, zero, suc, ◌≡◌, ◌≤◌, ◌<◌, ◌+◌, ◌-◌, Bool, true, false, not, IsTrue, List, [], ◌∷◌, Option, Some, None, slice_get, length, cond, refl, ap, sym, subst, ◌∙◌, arith}
+use Rattle.frame_ast.specs.Lists.{some_if}
+use Rattle.frame_ast.specs.declared.kernel.FaultKind.TheVariants.{Syntax}
 use Rattle.frame_ast.specs.declared.kernel.Expr.{Expr}
 use Rattle.frame_ast.specs.declared.kernel.Expr.TheVariants.{Item'}
 use Rattle.kernel_raw.specs.declared.raw.RawForm.{RawForm}
@@ -13,7 +15,7 @@ use Rattle.kernel_raw.specs.Raw.{RawExpr, Leaf, One, Two, Infix, expr_size, expr
 use Rattle.kernel_code.specs.StaticFaults.{node_fault, nodes_fault, token_fault, name_fault}
 use Rattle.kernel_code.specs.Scopes.{declares, as_local, local_of, locals_before}
 use Rattle.kernel_code.specs.Known.{IsFaultless, has_name, meaning_if, name_named, name_stored, number_named, meaning_at, meanings_from}
-use Rattle.kernel_code.specs.Trees.{ExprOf, item, joint_of}
+use Rattle.kernel_code.specs.Trees.{ExprOf, item, joint_of, joins}
 use Rattle.kernel_code.specs.Places.{is_leaf, is_one, is_two, IsFormed, StandsExpr, Ends, IsHere, IsAtomHere, Begins, whole, further, IsBuilt, IsResolved, leaf_of, IsOneOf, IsJoint}
 use Rattle.kernel_code.proofs.NoFaults.{option_or-none, node_fault-none}
 use Rattle.kernel_code.proofs.Built.Leaves.{leaf_is, one_is, joint_is, is_parameter}
@@ -288,6 +290,14 @@ chain_stop {l = l} raw i x next stops (further at g r) here built =
     let there = (stands-left raw.nodes.items i r here.stands).1 in
     let place : next ≡ i + expr_size l = built.next in
     absurd (stops (expr_node form.Binary at at (expr_size l) (expr_size g)) (ap (slice_get raw.nodes.items) place ∙ there) refl (omega arith))
+
+holds : (b : Bool) → some_if (not b) Syntax ≡ None → IsTrue b
+holds true h = refl
+holds false h = cc
+
+-- a token without a fault between two sides joins them
+pub joins_at : (raw : RawKernel) (i at : ℕ) (f : RawForm) → token_fault raw i at f ≡ None → f ≡ form.Binary → IsTrue (joins (kind_at raw at))
+joins_at raw i at f none is = holds (joins (kind_at raw at)) (subst (λ g. token_fault raw i at g ≡ None) is none)
 
 pub chain_more : {l e : RawExpr} (raw : RawKernel) (i : ℕ) (node : RawNode) (x y both last : Expr) (next after end : ℕ) →
     slice_get raw.nodes.items next ≡ Some node → node.form ≡ form.Binary → node.before ≡ next - i →

@@ -15,7 +15,7 @@ use Rattle.kernel_raw.specs.RawTexts.{kind_at, text_at, value_at}
 use Rattle.kernel_code.specs.Scopes.{meaning_of}
 use Rattle.kernel_code.specs.StaticFaults.{use_fault, used_fault, name_fault, token_fault, variable_fault, loop_variable_fault}
 use Rattle.kernel_code.specs.Known.{has_name, meaning_if, number_named}
-use Rattle.kernel_code.specs.Trees.{Joint, Both, Either, By, ExprOf, number, index, variable, loop_variable, value, size, element, has, count, negative, opposite, both, either, between, IsParameter, is_minus, joint_of}
+use Rattle.kernel_code.specs.Trees.{Joint, Both, Either, By, Neither, ExprOf, number, index, variable, loop_variable, value, size, element, has, count, negative, opposite, both, either, between, IsParameter, is_minus, joint_of}
 use Rattle.kernel_code.specs.Places.{is_leaf, is_one, value_named, leaf_of, IsOneOf, IsJoint}
 use Rattle.kernel_code.proofs.NoFaults.{lowest-none, some_if-none}
 
@@ -111,6 +111,7 @@ pub joint_is : (raw : RawKernel) (i at : ℕ) (e g : RawExpr) (y z x : Expr) (j 
 joint_is raw i at e g y z x Both h l r is = both h l r is.1
 joint_is raw i at e g y z x Either h l r is = either h l r is.1
 joint_is raw i at e g y z x (By op) h l r is = between op h l r is.1
+joint_is raw i at e g y z x Neither h l r is = absurd is
 
 pub negative_is : (m : Bool) {p : _} (y : Expr) → m ≡ true → (q : _) × (Negative' p y ≡ (if m then Negative' q y else Not' q y))
 negative_is m {p} y h = (p, ap (λ b. cond b (Negative' p y) (Not' p y)) (sym h))

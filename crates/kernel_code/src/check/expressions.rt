@@ -11,13 +11,13 @@ ghost use Rattle.frame_ast.specs.declared.kernel.Expr.TheVariants.{Negative', No
 ghost use Rattle.kernel_raw.specs.Raw.{RawExpr};
 ghost use Rattle.kernel_raw.specs.RawTexts.{value_at};
 ghost use Rattle.kernel_code.specs.Known.{number_named};
-ghost use Rattle.kernel_code.specs.Trees.{joint_of};
+ghost use Rattle.kernel_code.specs.Trees.{joint_of, joins};
 ghost use Rattle.kernel_code.specs.Places.{value_named, leaf_of, IsOneOf, IsJoint, IsHere, IsAtomHere, Begins, IsBuilt, IsResolved};
 
 use crate::check::names::{Meaning, Named};
 use crate::check::nodes::MOST_NUMBER;
 use crate::check::operators::{is_minus, operator_of};
-use frame_ast::kernel::{Expr, Operator};
+use frame_ast::kernel::Expr;
 use frame_grammar::{TokenAt, TokenKind};
 use job_base::NoMemory;
 use kernel_raw::{RawForm, RawKernel, RawNode, kind_at, node_at, value_at};
@@ -158,15 +158,19 @@ fn one_operand(
     }
 }
 
-// The expression of an operator between two sides. By the grammar no other token stands there; one would count as `%`.
+// The expression of an operator between two sides.
 fn binary(alloc: Global, kind: TokenKind, left: Expr, right: Expr) -> Result<Expr, NoMemory>
+    requires { IsTrue (joins kind) }
     ensures { IfOk result (λ x. IsJoint (joint_of kind) left right x) }
 {
     let sides = Box::new(alloc, (left, right))?;
     match kind {
         TokenKind::AndAnd => Ok(Expr::And(sides)),
         TokenKind::OrOr => Ok(Expr::Or(sides)),
-        _ => Ok(Expr::Binary(operator_of(kind).unwrap_or(Operator::Remainder), sides)),
+        _ => match operator_of(kind) {
+            Some(operator) => Ok(Expr::Binary(operator, sides)),
+            None => unreachable!(),
+        },
     }
 }
 
@@ -180,9 +184,11 @@ fn infix_at(raw: &RawKernel<'_>, start: usize, next: usize) -> Option<RawNode>
         × (node.before ≡ next - start)) }
     ensures within { IfSome result (λ node. next < length raw.now.nodes.items) }
 {
-    match raw.nodes.get(next) {
-        Some(node) if is_binary(node.form) && node.before as usize == next - start => Some(*node),
-        _ => None,
+    let node = node_at(raw, next)?;
+    if is_binary(node.form) && node.before as usize == next - start {
+        Some(node)
+    } else {
+        None
     }
 }
 
@@ -200,9 +206,10 @@ fn atom(
     meanings: &[Meaning],
     at: usize,
 ) -> Result<Built, NoMemory>
-    requires { at ≤ length raw.now.nodes.items }
+    requires resolved { IsResolved raw.now meanings.now }
+    requires within { at ≤ length raw.now.nodes.items }
     ensures next { IfOk result (λ r. (at ≤ r.next) × (r.next ≤ length raw.now.nodes.items)) }
-    ensures built { IfOk result (λ r. IsResolved raw.now meanings.now → (e : RawExpr) → IsAtomHere raw.now at e →
+    ensures built { IfOk result (λ r. (e : RawExpr) → IsAtomHere raw.now at e →
         IsBuilt raw.now at e r.expr r.next) }
 {
     let Some(node) = node_at(raw, at) else {
@@ -264,10 +271,11 @@ fn chain(
     start: usize,
     left: Built,
 ) -> Result<Built, NoMemory>
+    requires resolved { IsResolved raw.now meanings.now }
     requires start { start ≤ left.next }
     requires within { left.next ≤ length raw.now.nodes.items }
     ensures next { IfOk result (λ r. (left.next ≤ r.next) × (r.next ≤ length raw.now.nodes.items)) }
-    ensures built { IfOk result (λ r. IsResolved raw.now meanings.now → (l e : RawExpr) → Begins l e →
+    ensures built { IfOk result (λ r. (l e : RawExpr) → Begins l e →
         IsHere raw.now start e → IsBuilt raw.now start l left.expr left.next → IsBuilt raw.now start e r.expr r.next) }
 {
     let Some(node) = infix_at(raw, start, left.next) else {
@@ -290,9 +298,10 @@ pub fn expression(
     meanings: &[Meaning],
     at: usize,
 ) -> Result<Built, NoMemory>
-    requires { at ≤ length raw.now.nodes.items }
+    requires resolved { IsResolved raw.now meanings.now }
+    requires within { at ≤ length raw.now.nodes.items }
     ensures next { IfOk result (λ r. (at ≤ r.next) × (r.next ≤ length raw.now.nodes.items)) }
-    ensures built { IfOk result (λ r. IsResolved raw.now meanings.now → (e : RawExpr) → IsHere raw.now at e →
+    ensures built { IfOk result (λ r. (e : RawExpr) → IsHere raw.now at e →
         IsBuilt raw.now at e r.expr r.next) }
 {
     let first = atom(alloc, raw, meanings, at)?;

@@ -12,12 +12,13 @@ use crate::check::demands::{
 };
 use crate::check::forms::{declares, has_answer, has_name};
 use crate::check::names::{Local, Meaning, Named, meaning_of};
+use crate::check::operators::joins;
 use crate::check::params::{fault_at, length_fault};
 use crate::check::streams::{StreamBlock, stands_in};
 use frame_ast::kernel::FaultKind;
 use frame_grammar::TokenAt;
 use job_base::limits::{MOST_LOCALS, MOST_PARAMS};
-use kernel_raw::{RawForm, RawKernel, RawNode, is_above, text_at};
+use kernel_raw::{RawForm, RawKernel, RawNode, is_above, kind_at, text_at};
 
 /// The greatest number of a kernel's text.
 pub const MOST_NUMBER: u64 = 9_223_372_036_854_775_807;
@@ -61,10 +62,12 @@ fn block_fault(
     requires { AreBegun raw.now number blocks.now }
     ensures { result ≡ block_fault form (is_begun raw.now number x) }
 {
-    match form {
-        RawForm::Write => fault_if(FaultKind::KindMismatch, !stands_in(x, number, blocks)),
-        RawForm::Begin => fault_if(FaultKind::KindMismatch, stands_in(x, number, blocks)),
-        _ => None,
+    if matches!(form, RawForm::Write) {
+        fault_if(FaultKind::KindMismatch, !stands_in(x, number, blocks))
+    } else if matches!(form, RawForm::Begin) {
+        fault_if(FaultKind::KindMismatch, stands_in(x, number, blocks))
+    } else {
+        None
     }
 }
 
@@ -143,7 +146,8 @@ fn declared_fault(
     )
 }
 
-/// What the token of a node without an answer says, its number and depth aside: only a Number or `index` can be wrong.
+/// What the token of a node without an answer says, its number and depth aside: a Number, `index` or what stands
+/// between two sides can be wrong.
 pub fn atom_fault(raw: &RawKernel<'_>, node: &RawNode) -> Option<FaultKind>
     requires { has_answer node.now.form ≡ false }
     ensures { (i : ℕ) → result ≡ token_fault raw.now i node.now.at node.now.form }
@@ -151,7 +155,29 @@ pub fn atom_fault(raw: &RawKernel<'_>, node: &RawNode) -> Option<FaultKind>
     match node.form {
         RawForm::Number => fault_if(FaultKind::Limit, is_above(raw, node.at, MOST_NUMBER)),
         RawForm::Index => fault_if(FaultKind::UnknownName, !raw.parallel),
-        _ => None,
+        RawForm::Binary => fault_if(FaultKind::Syntax, !joins(kind_at(raw, node.at))),
+        RawForm::Name
+        | RawForm::Element
+        | RawForm::Length
+        | RawForm::Has
+        | RawForm::Count
+        | RawForm::Item
+        | RawForm::Unary
+        | RawForm::Var
+        | RawForm::SetName
+        | RawForm::SetPlace
+        | RawForm::SetTryAdd
+        | RawForm::SetRemove
+        | RawForm::AddItem
+        | RawForm::AddPair
+        | RawForm::Remove
+        | RawForm::Clear
+        | RawForm::Write
+        | RawForm::Begin
+        | RawForm::If
+        | RawForm::IfElse
+        | RawForm::For
+        | RawForm::While => None,
     }
 }
 

@@ -1,7 +1,7 @@
-//! What operator a token is.
+//! What operator a token is, and whether it joins two sides.
 
 ghost use Rattle.std.specs.Prelude.{◌≡◌};
-ghost use Rattle.kernel_code.specs.Trees.{is_minus, operator_of};
+ghost use Rattle.kernel_code.specs.Trees.{is_minus, operator_of, joins};
 
 use frame_ast::kernel::Operator;
 use frame_grammar::TokenKind;
@@ -31,4 +31,11 @@ pub fn operator_of(kind: TokenKind) -> Option<Operator>
         TokenKind::Percent => Some(Operator::Remainder),
         _ => None,
     }
+}
+
+/// Whether a token joins two sides: `&&`, `||`, or an operator that evaluates both.
+pub fn joins(kind: TokenKind) -> bool
+    ensures { result ≡ joins kind }
+{
+    matches!(kind, TokenKind::AndAnd | TokenKind::OrOr) || operator_of(kind).is_some()
 }

@@ -77,10 +77,8 @@ fn param_name_fault(raw: &RawKernel<'_>, number: usize, name: &[u8]) -> Option<F
 fn stream_fault(kind: ParamKind, access: Access) -> Option<FaultKind>
     ensures { result ≡ stream_fault kind access }
 {
-    match (kind, access) {
-        (ParamKind::Stream, Access::Both) => Some(FaultKind::KindMismatch),
-        _ => None,
-    }
+    let is_both = matches!(kind, ParamKind::Stream) && matches!(access, Access::Both);
+    fault_if(FaultKind::KindMismatch, is_both)
 }
 
 fn width_word_fault(parallel: bool, access: Access) -> Option<FaultKind>

@@ -107,8 +107,9 @@ fn statement(
     at: usize,
     node: RawNode,
 ) -> Result<Stmt, NoMemory>
-    requires { slice_get raw.now.nodes.items at ≡ Some node }
-    ensures { IfOk result (λ s. IsResolved raw.now meanings.now → (owner : Option ℕ) (b : RawBlock) →
+    requires resolved { IsResolved raw.now meanings.now }
+    requires here { slice_get raw.now.nodes.items at ≡ Some node }
+    ensures { IfOk result (λ s. (owner : Option ℕ) (b : RawBlock) →
         IsTrue (has_first b) → IsBlockHere raw.now owner at b → IsFirst raw.now at b s) }
 {
     let meaning = meaning_at(meanings, at);
@@ -194,7 +195,8 @@ pub fn block(
     from: usize,
     end: usize,
 ) -> Result<Vec<Stmt>, NoMemory>
-    ensures { IfOk result (λ v. IsResolved raw.now meanings.now → (owner : Option ℕ) (b : RawBlock) →
+    requires { IsResolved raw.now meanings.now }
+    ensures { IfOk result (λ v. (owner : Option ℕ) (b : RawBlock) →
         IsBlockHere raw.now owner from b → end ≡ from + block_size b → BlockOf raw.now from b v.items) }
 {
     let mut statements = Vec::with_capacity(alloc, count_statements(raw, from, end))?;

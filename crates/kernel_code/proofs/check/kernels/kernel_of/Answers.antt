@@ -7,11 +7,13 @@ use Rattle.kernel_code.proofs.Built.Counting.{all-kept}
 use Rattle.kernel_code.proofs.Built.Kernels.{body-here, body-size}
 use Rattle.kernel_code.proofs.check.kernels.kernel_of.Goals as goal
 
+pub block-requires : goal.block-requires
+block-requires c = subst (λ ms. IsResolved c.args.raw.now ms) (sym c.deref.ensures.value) c.requires.resolved
+
 pub returns : goal.returns
 returns c =
     let raw = c.args.raw.now in
-    let resolved = subst (λ ms. IsResolved raw ms) (sym c.deref.ensures.value) c.requires.resolved in
     let body : (events : List Event) (s : SpellsRaw events raw) → BlockOf raw 0 s.body c.in_ok-statements.statements.items =
-    λ events s. c.in_ok-statements.ensures resolved None s.body (body-here events raw s (all-kept events raw s c.requires.resolved.faultless))
+    λ events s. c.in_ok-statements.ensures None s.body (body-here events raw s (all-kept events raw s c.requires.resolved.faultless))
     (omega (arith, body-size events raw s (all-kept events raw s c.requires.resolved.faultless))) in
     record { name = c.in_ok-name.ensures; parallel = refl; params = c.in_ok-params.ensures; locals = c.requires.locals; body = body }

@@ -1,6 +1,6 @@
 use Rattle.std.proofs.Common.{ℕ, ◌≡◌, ◌≤◌, Option, length, ◌+◌, ◌-◌, ◌*◌}
 use Rattle.kernel_raw.specs.Raw.{RawBlock, block_size}
-use Rattle.kernel_code.specs.Places.{IsResolved, IsBlockHere}
+use Rattle.kernel_code.specs.Places.{IsBlockHere}
 use Rattle.kernel_code.proofs.Built.Blocks.{IsPartly}
 use Rattle.kernel_code.proofs.check.statements.+statement.Given as goal
 
@@ -13,7 +13,7 @@ decreases-block l = 2 * (length l.raw.now.nodes.items - l.from) + 1
 abbrev pub invariant-block-loop-at : goal.invariant-block-loop-at
 invariant-block-loop-at l = record {
   begins : l.from ≤ l.at;
-  partly : IsResolved l.raw l.meanings → (owner : Option ℕ) (b : RawBlock) → IsBlockHere l.raw owner l.from b → l.end ≡ l.from + block_size b
+  partly : (owner : Option ℕ) (b : RawBlock) → IsBlockHere l.raw owner l.from b → l.end ≡ l.from + block_size b
       → IsPartly l.raw owner l.from l.at l.end b l.statements.items;
 }
 
