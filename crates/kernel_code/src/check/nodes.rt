@@ -146,8 +146,8 @@ fn declared_fault(
     )
 }
 
-/// What the token of a node without an answer says, its number and depth aside: a Number, `index` or an operator between
-/// two sides can be wrong.
+/// What the token of a node without an answer says, its number and depth aside: a Number, `index` or what stands
+/// between two sides can be wrong.
 pub fn atom_fault(raw: &RawKernel<'_>, node: &RawNode) -> Option<FaultKind>
     requires { has_answer node.now.form ≡ false }
     ensures { (i : ℕ) → result ≡ token_fault raw.now i node.now.at node.now.form }
