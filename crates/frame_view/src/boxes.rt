@@ -34,9 +34,10 @@ fn lines_in(
     ensures { IfOk result (λ lines. map (λ v. string_bytes v) lines.items
         ≡ lines_in script.now number size statement.now.line statement.now.act) }
 {
-    match &statement.act {
-        Order::Schedule(job) => job_lines(alloc, script, statement.line, job, number, size),
-        _ => plain_lines(alloc, number),
+    if let Order::Schedule(job) = &statement.act {
+        job_lines(alloc, script, statement.line, job, number, size)
+    } else {
+        plain_lines(alloc, number)
     }
 }
 

@@ -15,10 +15,13 @@ pub(crate) fn args_at(script: &Script, at: usize) -> &[Arg]
     ensures { result.now ≡ args_by (slice_get script.now.statements.items at) }
 {
     match script.statements.get(at) {
-        Some(statement) => match &statement.act {
-            Order::Schedule(job) => &job.args,
-            _ => &[],
-        },
+        Some(statement) => {
+            if let Order::Schedule(job) = &statement.act {
+                &job.args
+            } else {
+                &[]
+            }
+        }
         None => &[],
     }
 }

@@ -18,9 +18,10 @@ pub struct Part {
 fn passed_with(act: &Order) -> u32
     ensures { result ≡ passed_with act.now }
 {
-    match act {
-        Order::When { count, .. } => *count,
-        _ => 0,
+    if let Order::When { count, .. } = act {
+        *count
+    } else {
+        0
     }
 }
 

@@ -70,16 +70,17 @@ fn lines_in(
     ensures { IfOk result (λ lines. map (λ v. string_bytes v) lines.items
         ≡ refused_lines_in script.now refused statement.now.line statement.now.act) }
 {
-    match &statement.act {
-        Order::Schedule(job) => refused_lines(
+    if let Order::Schedule(job) = &statement.act {
+        refused_lines(
             alloc,
             script,
             statement.line,
             job,
             refused.refusal,
             refused.name,
-        ),
-        _ => Ok(Vec::new(alloc)),
+        )
+    } else {
+        Ok(Vec::new(alloc))
     }
 }
 
