@@ -4,7 +4,7 @@ ghost use Rattle.std.specs.Prelude.{◌≡◌, ◌≤◌, ◌+◌, true, Some, I
 ghost use Rattle.frame_parser.specs.Notes.{events_of};
 ghost use Rattle.script_text.specs.Raw.{form_of, values_of, NewArray};
 ghost use Rattle.script_text.specs.Events.{BeginsOrder};
-ghost use Rattle.script_text.specs.Reading.{reading_of, only_scalars, nothing_read, order_from, values_len, step, ends, finished};
+ghost use Rattle.script_text.specs.Reading.{reading_of, only_scalars, nothing_read, opens_values, order_from, values_len, step, ends, finished};
 
 use crate::build_scalars::{Scalars, ends_flat, signed_of};
 use crate::raw::{RawArg, RawOrder};
@@ -13,17 +13,24 @@ use frame_grammar::{Action, Event, TokenAt};
 use frame_parser::Note;
 use std::alloc::{AllocError, Global};
 
+// Whether the values of an array stand after this event.
+fn opens_values(action: Action) -> bool
+    ensures { result ≡ opens_values action }
+{
+    matches!(action, Action::OpenValues)
+}
+
 /// Whether a statement, or what stands before its brace, is whole with this event.
 fn ends(action: Action) -> bool
     ensures { result ≡ ends action }
 {
-    match action {
+    matches!(
+        action,
         Action::ScheduleStatement
-        | Action::CombineStatement
-        | Action::DisposeStatement
-        | Action::DisposeAfterStatement => true,
-        _ => ends_flat(action),
-    }
+            | Action::CombineStatement
+            | Action::DisposeStatement
+            | Action::DisposeAfterStatement
+    ) || ends_flat(action)
 }
 
 /// What has been read of a statement. Its lists allocate nothing while they are empty.
@@ -67,6 +74,7 @@ impl Reader {
                 self.args.push(RawArg::Number(number))?;
             }
             Action::Waived => std::mem::swap(&mut self.names, &mut self.waive),
+            // No other event says a part of a list.
             _ => {}
         }
         Ok(())
@@ -160,16 +168,16 @@ fn listed_order<'a>(
     let mut reader = Reader::new(alloc, scalars);
     for index in from..notes.len() {
         let event = notes[index].event();
-        match event.action {
-            Action::OpenValues => return Ok(array_with(&reader.scalars, notes, index + 1)),
-            action if ends(action) => {
-                return Ok(ReadOrder {
-                    order: reader.finish(action),
-                    read: index + 1,
-                });
-            }
-            _ => reader.take(event)?,
+        if opens_values(event.action) {
+            return Ok(array_with(&reader.scalars, notes, index + 1));
         }
+        if ends(event.action) {
+            return Ok(ReadOrder {
+                order: reader.finish(event.action),
+                read: index + 1,
+            });
+        }
+        reader.take(event)?;
     }
     unreachable!()
 }

@@ -1,6 +1,6 @@
 //! What has been read of a statement but for its lists.
 
-ghost use Rattle.std.specs.Prelude.{◌≡◌, true};
+ghost use Rattle.std.specs.Prelude.{◌≡◌, true, MatchOption};
 ghost use Rattle.script_text.specs.Raw.{form_of};
 ghost use Rattle.script_text.specs.Reading.{is_scalar, scalars_plainly_after, scalars_after, signed_of, no_scalars, with_signed, ends_flat, ends_use, flat_form, used};
 
@@ -198,62 +198,73 @@ impl Scalars {
         }
     }
 
-    /// The statement without lists that is whole with this event.
-    pub fn finish<'a>(&self, action: Action) -> RawOrder<'a>
-        requires { ends_flat action ≡ true }
-        ensures { form_of result ≡ flat_form action self.now }
+    // The statement that is whole with this event, where it is one without lists that makes a name which is no handle.
+    fn finish_made<'a>(&self, action: Action) -> Option<RawOrder<'a>>
+        ensures { MatchOption result (ends_flat action ≡ true → ends_use action ≡ true)
+            (λ order. form_of order ≡ flat_form action self.now) }
     {
         let name = self.names.last;
         let number = self.numbers.last;
         let life = self.life;
         match action {
-            Action::ArrayStatement => RawOrder::Array {
+            Action::ArrayStatement => Some(RawOrder::Array {
                 name,
                 len: number,
                 life,
                 values: None,
-            },
-            Action::ColumnStatement => RawOrder::Column {
+            }),
+            Action::ColumnStatement => Some(RawOrder::Column {
                 name,
                 column: number,
                 life,
-            },
-            Action::ListStatement => RawOrder::List {
+            }),
+            Action::ListStatement => Some(RawOrder::List {
                 name,
                 cap: number,
                 life,
-            },
-            Action::ReferenceStatement => RawOrder::Reference {
+            }),
+            Action::ReferenceStatement => Some(RawOrder::Reference {
                 name,
                 life,
                 value: self.numbers.signed,
-            },
-            Action::MapStatement => RawOrder::Map {
+            }),
+            Action::MapStatement => Some(RawOrder::Map {
                 name,
                 cap: number,
                 life,
-            },
-            Action::StreamStatement => RawOrder::Stream {
+            }),
+            Action::StreamStatement => Some(RawOrder::Stream {
                 name,
                 count: self.numbers.before_last,
                 room: number,
                 life,
-            },
-            Action::SliceStatement => RawOrder::Slice {
+            }),
+            Action::SliceStatement => Some(RawOrder::Slice {
                 name: self.names.before_last,
                 of: name,
                 start: self.numbers.before_last,
                 len: number,
-            },
-            Action::ViewStatement => RawOrder::View {
+            }),
+            Action::ViewStatement => Some(RawOrder::View {
                 name: self.names.before_last,
                 of: name,
-            },
-            Action::CopyStatement => RawOrder::Copy {
+            }),
+            Action::CopyStatement => Some(RawOrder::Copy {
                 name: self.names.before_last,
                 of: name,
-            },
-            _ => self.finish_use(action),
+            }),
+            _ => None,
+        }
+    }
+
+    /// The statement without lists that is whole with this event.
+    pub fn finish<'a>(&self, action: Action) -> RawOrder<'a>
+        requires { ends_flat action ≡ true }
+        ensures { form_of result ≡ flat_form action self.now }
+    {
+        match self.finish_made(action) {
+            Some(order) => order,
+            None => self.finish_use(action),
         }
     }
 

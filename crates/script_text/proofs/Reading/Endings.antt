@@ -1,8 +1,8 @@
 -- Which events are left where those before them were told apart.
-use Rattle.std.proofs.Common.{◌≡◌, true, false, refl}
+use Rattle.std.proofs.Common.{◌≡◌, true, refl}
 use Rattle.frame_grammar.specs.declared.symbols.Action.{Action}
 use Rattle.frame_grammar.specs.declared.symbols.Action.TheVariants as action
-use Rattle.script_text.specs.Reading.{ends, ends_flat, ends_use, opens_values}
+use Rattle.script_text.specs.Reading.{ends, ends_flat, ends_use}
 
 -- past the statements with lists
 pub flat_left : (a : Action) → ends a ≡ true →
@@ -55,8 +55,3 @@ none_left action.FrameStatement e _ _ _ _ _ _ _ _ _ _ taken _ _ = taken refl
 none_left action.OpenRepeat e _ _ _ _ _ _ _ _ _ _ _ taken _ = taken refl
 none_left action.OpenWhen e _ _ _ _ _ _ _ _ _ _ _ _ taken = taken refl
 none_left _ e _ _ _ _ _ _ _ _ _ _ _ _ _ = cc
-
--- at an event that opens no values
-pub shut_at : (a : Action) → (a ≡ action.OpenValues → ⊥) → opens_values a ≡ false
-shut_at action.OpenValues other = absurd (other refl)
-shut_at _ other = refl

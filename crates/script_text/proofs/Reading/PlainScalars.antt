@@ -3,7 +3,7 @@ use Rattle.std.proofs.Common.{◌≡◌, ℕ, true, false, [], ◌∷◌, ◌++�
 use Rattle.frame_grammar.specs.declared.symbols.Action.{Action}
 use Rattle.frame_grammar.specs.declared.symbols.Action.TheVariants as action
 use Rattle.script_text.specs.declared.build_scalars.Scalars.{Scalars}
-use Rattle.script_text.specs.Reading.{Reading, is_scalar, scalars_plainly_after, scalars_after, with_name, only_scalars, opens_values, ends, ends_flat, flat_form, finished, step}
+use Rattle.script_text.specs.Reading.{Reading, is_scalar, scalars_plainly_after, scalars_after, with_name, only_scalars, opens_values, ends, ends_flat, ends_use, used, flat_form, finished, step}
 
 -- A WORD
 
@@ -102,3 +102,15 @@ flat_finished action.CombineStatement r e = cc
 flat_finished action.DisposeStatement r e = cc
 flat_finished action.DisposeAfterStatement r e = cc
 flat_finished _ r e = refl
+
+pub used_flat : (a : Action) (w : Scalars) → ends_use a ≡ true → used a w ≡ flat_form a w
+used_flat action.ArrayStatement w e = cc
+used_flat action.ColumnStatement w e = cc
+used_flat action.ListStatement w e = cc
+used_flat action.ReferenceStatement w e = cc
+used_flat action.MapStatement w e = cc
+used_flat action.StreamStatement w e = cc
+used_flat action.SliceStatement w e = cc
+used_flat action.ViewStatement w e = cc
+used_flat action.CopyStatement w e = cc
+used_flat _ w e = refl
