@@ -1,6 +1,6 @@
 // Frames whose pieces are watched.
 
-use crate::frames::{Given, WORKERS, sink_of, status_of, with_kernels};
+use crate::frames::{Given, WORKERS, sink_of, status_of, status_of_cut, with_kernels};
 use job_base::{Gate, NoMemory, PieceId};
 use std::alloc::Global;
 use std::sync::atomic::{AtomicBool, Ordering};
@@ -33,13 +33,16 @@ impl NotingGate {
         })
     }
 
-    // Whether each of the pieces came once.
-    fn saw_each_once(&self) -> bool {
-        !self.twice.load(Ordering::SeqCst)
-            && self
-                .entered
-                .iter()
-                .all(|piece| piece.load(Ordering::SeqCst))
+    // How many of the pieces came, if none came twice.
+    fn count(&self) -> Option<usize> {
+        if self.twice.load(Ordering::SeqCst) {
+            return None;
+        }
+        let came = self
+            .entered
+            .iter()
+            .filter(|piece| piece.load(Ordering::SeqCst));
+        Some(came.count())
     }
 }
 
@@ -67,11 +70,29 @@ fn each_piece_is_run_once(rt: HostRuntime) -> Result<(), Fail> {
         let gate = NotingGate::new(alloc, 128)?;
         let mut sink = sink_of(&rt)?;
         assert_eq!(rt;
-            status_of(&rt, workers, &["s"], &given, &mut sink, &gate)?,
+            status_of_cut(&rt, workers, &["s"], &given, &mut sink, &gate)?,
             0
         );
         assert_eq!(rt; sink.bytes(), b"".as_slice());
-        assert!(rt; gate.saw_each_once());
+        assert_eq!(rt; gate.count(), Some(128));
+    }
+    Ok(())
+}
+
+// The two jobs are little work, so each is one piece where nobody asks for the pieces as they are scheduled.
+#[test]
+fn little_work_is_one_piece(rt: HostRuntime) -> Result<(), Fail> {
+    let alloc = rt.alloc();
+    let script = with_kernels(alloc, WIDE)?;
+    let given = Given::script(&script);
+    for workers in WORKERS {
+        let gate = NotingGate::new(alloc, 128)?;
+        let mut sink = sink_of(&rt)?;
+        assert_eq!(rt;
+            status_of(&rt, workers, &["s"], &given, &mut sink, &gate)?,
+            0
+        );
+        assert_eq!(rt; gate.count(), Some(2));
     }
     Ok(())
 }
