@@ -87,4 +87,5 @@ returns-in-Ok c = record {
         between = λ n x low. ran.between n x (omega arith);
         later = λ some. omega arith;
       };
+  small_jobs = refl;
 }
