@@ -8,7 +8,7 @@ ghost use Rattle.frame_rows.specs.Between.{IsBetween};
 
 use crate::boards::run_plan;
 use frame_ast::script::Script;
-use frame_plan::{Section, SectionBook, Test};
+use frame_plan::{Section, SectionBook, SmallJobs, Test};
 use frame_rows::script_of;
 use job_base::{FlatMem, Mem, MemSink, Word};
 use std::alloc::Global;
@@ -133,7 +133,7 @@ fn outcomes_with<R: Threads + Wait + Sync>(
 ) -> Result<String, Fail>
     requires { IsAccepted script.now }
 {
-    let book = SectionBook::new(alloc, script, table)?;
+    let book = SectionBook::new(alloc, script, table, SmallJobs::Cut)?;
     let cells = FlatMem::new(alloc, 0)?;
     let mut walk = Walk {
         book,

@@ -11,7 +11,7 @@ use crate::script::FrameScript;
 use crate::section::FrameSection;
 use crate::text::KeptText;
 use frame_ast::script::Script;
-use frame_plan::{PlanFault, SectionBook, missing_column};
+use frame_plan::{PlanFault, SectionBook, SmallJobs, missing_column};
 use frame_stage::{Hold, Stage, Staged, room_for, set_stage};
 use frame_top::{Progress, begin_frame, next_section};
 use job_base::{FlatMem, NoMemory, OpenGate};
@@ -55,7 +55,7 @@ impl Frame {
         if let Some(statement) = missing_column(shown, &table) {
             return Err(BeginFault::NoColumn { statement });
         }
-        let book = match SectionBook::new(alloc, shown, &table) {
+        let book = match SectionBook::new(alloc, shown, &table, SmallJobs::Cut) {
             Ok(book) => book,
             Err(fault) => return Err(BeginFault::Plan(fault)),
         };

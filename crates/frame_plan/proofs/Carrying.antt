@@ -1,5 +1,5 @@
 -- A section that begins after a test is laid out: the one range of its plan so far has all words that were ever taken.
-use Rattle.std.proofs.Common.{◌≡◌, ℕ, suc, ◌+◌, ◌<◌, Bool, true, false, ◌&&◌, ℤ, List, [], ◌++◌, Some, refl, sym, ap, subst, ◌∙◌, arith}
+use Rattle.std.proofs.Common.{◌≡◌, ℕ, suc, ◌+◌, ◌<◌, Bool, true, false, ◌&&◌, ℤ, List, [], ◌++◌, Option, Some, refl, sym, ap, subst, ◌∙◌, arith}
 use Rattle.std.specs.Prelude.{◌-◌, max, nat_lt, slice_get}
 use Rattle.frame_ast.specs.declared.script.Order.{Order}
 use Rattle.frame_ast.specs.declared.script.Order.TheVariants.{When}
@@ -89,6 +89,9 @@ module _ (script : Script) (table : Table) (book : SectionBook) (plan : Plan) (n
       peak_now : peak_of q.world.store ≡ peak_of b.old.world.store
       peak_now = ap (λ (k : Planner). peak_of k.world.store) resumed_is
 
+      abbrev works : List (Option ℕ)
+      works = q.world.works.items
+
       pub grown_again : HasGrown script table starts (record q { world = record q.world { passing = k } }) n (suc n)
       grown_again = record {
         ranges = ranges_more script table starts b.old (record q { world = record q.world { passing = k } }) n x here was
@@ -107,7 +110,7 @@ module _ (script : Script) (table : Table) (book : SectionBook) (plan : Plan) (n
             let s = state_at script table m in
             let y_plain = subst (λ (z : Statement). IsPlain g z.act) y_is plain in
             record {
-              job = plain_schedules g starts before s (deps_after g s y) q.draft.kernels.items
+              job = plain_schedules g works starts before s (deps_after g s y) q.draft.kernels.items
                   (slice_get q.draft.jobs.items (s.book.count - before)) y.act s.passing y_plain.1;
               after = plain_awaits g before s q.draft.segments.items y.act s.passing y_plain.1;
             };

@@ -23,16 +23,18 @@ use Rattle.plan_laws.specs.Planned.{renumbered}
 use Rattle.frame_plan.specs.declared.section.Section.{Section}
 use Rattle.frame_plan.specs.declared.section.Test.{Test}
 use Rattle.frame_plan.specs.declared.sections.SectionBook.{SectionBook}
+use Rattle.frame_plan.specs.declared.small_jobs.SmallJobs.TheVariants.{Cut}
 use Rattle.plan_state.specs.declared.state.PlanFault.{PlanFault}
 use Rattle.plan_state.specs.declared.state.PlanFault.TheVariants.{NoMemory}
 use Rattle.plan_state.specs.declared.state.Planner.{Planner}
 use Rattle.plan_state.specs.Growth.{first_jobs, unless_none}
 use Rattle.frame_plan.specs.Bindings.{IsBindAt, bind_named}
-use Rattle.frame_plan.specs.Layouts.{IsLaidOut}
+use Rattle.frame_plan.specs.Layouts.{AreScheduled, IsLaidOut}
 use Rattle.frame_plan.specs.Names.{AreNamesOf}
 use Rattle.frame_plan.specs.References.{IsOfTest, IsTestFor}
 use Rattle.frame_plan.specs.Runs.{IsInside, IsActingTest, IsStop, IsWithin, PassesOnce, IsFinished, IsEmptied, outline_of}
 use Rattle.frame_plan.specs.Sections.{limit_told, IsTestOf, EndsBy, IsPlannedFrom, IsTakenBack, IsHandedOut, IsAt, IsNext, IsPlanOf}
+use Rattle.frame_plan.specs.Works.{works_by}
 use Rattle.plan_state.specs.Steps.{state_at, IsBefore}
 use Rattle.frame_plan.proofs.NamedWords.{bound}
 use Rattle.frame_plan.proofs.Laying.{scheduled_later}
@@ -71,16 +73,16 @@ module _ (script : Script) (table : Table) (from : ℕ) (book : SectionBook) (re
   s = state_at script table book.at
 
   abbrev section : Section
-  section = record { plan = plan; jobs_before = book.planner.world.jobs_before; test = test }
+  section = record { plan = plan; jobs_before = book.planner.world.jobs_before; small_jobs = book.small_jobs; test = test }
 
   abbrev after : SectionBook
-  after = record { planner = new; at = book.at; names = none; spare = book.spare }
+  after = record { planner = new; small_jobs = book.small_jobs; at = book.at; names = none; spare = book.spare }
 
   done : IsDone (outline_of plan ready.found (state_at script table from)) (state_at script table book.at)
   done = finished.done (at_end ready)
 
   -- the plan has the definitions' ranges, jobs and contents
-  laid_out : IsLaidOut script table from book.at plan
+  laid_out : IsLaidOut script table book.small_jobs from book.at plan
   laid_out =
       let starts : Starts = (λ k. get_or ready.found k 0) in
       let h = ready.grown starts (λ k lt. refl) in
@@ -92,9 +94,12 @@ module _ (script : Script) (table : Table) (from : ℕ) (book : SectionBook) (re
         spans = finished.spans ∙ h.spans;
         cells = finished.cells ∙ h.ranges.peak;
         count = (let e = ap length finished.jobs in let c = planned.ordered.count in omega arith);
-        jobs = scheduled_later script table starts from book.at
+        jobs = scheduled_later script table starts (works_by book.small_jobs script.kernels.items) from book.at
             draft.kernels.items [] plan.kernels.items draft.jobs.items [] plan.jobs.items draft.segments.items finished.segments_later plan.segments.items
-            (finished.kernels ∙ sym (append-nil draft.kernels.items)) (finished.jobs ∙ sym (append-nil draft.jobs.items)) finished.segments h.jobs;
+            (finished.kernels ∙ sym (append-nil draft.kernels.items)) (finished.jobs ∙ sym (append-nil draft.jobs.items))
+            finished.segments
+            (subst (λ works. AreScheduled script table works starts from book.at draft.kernels.items draft.jobs.items draft.segments.items) ready.works
+            h.jobs);
         waits = finished.waits
             ∙ (let a = h.waits in let b = ap length (sym finished.jobs) in λ i. a i ++ unless_none (first_jobs (b i)));
         contents = done.contents;
@@ -159,6 +164,7 @@ module _ (script : Script) (table : Table) (from : ℕ) (book : SectionBook) (re
     stood = ready.stands;
     ranges = λ starts same. (ready.grown starts same).ranges;
     emptied = emptied;
+    works = ap (λ (k : Planner). k.world.works.items) emptied.rest ∙ ready.works;
     kernels = finished.kernels;
     codes = finished.codes;
     names = names;
@@ -171,8 +177,8 @@ module _ (script : Script) (table : Table) (from : ℕ) (book : SectionBook) (re
   is_at zero lt h back taken = absurd (omega arith)
   is_at (suc n) lt h back taken = record { before = after; plan = plan; handed_out = h; taken_back = taken }
 
-  pub is_next : IsNext (record { planner = new; at = book.at; names = none; spare = book.spare }) script table from
-      (record { plan = plan; jobs_before = book.planner.world.jobs_before; test = test })
+  pub is_next : IsNext (record { planner = new; small_jobs = book.small_jobs; at = book.at; names = none; spare = book.spare }) script table from
+      (record { plan = plan; jobs_before = book.planner.world.jobs_before; small_jobs = book.small_jobs; test = test })
   is_next = record {
     to = book.at;
     place = refl;
@@ -188,6 +194,7 @@ module _ (script : Script) (table : Table) (from : ℕ) (book : SectionBook) (re
       laid_out = laid_out;
       test = ends (slice_get script.statements.items book.at) refl ready.stops test tests;
     };
+    small_jobs = refl;
     inside = λ t e. inside (slice_get script.statements.items book.at) refl ready.stops t
         (subst (IsTestFor book.planner (slice_get script.statements.items book.at)) e tests);
     binds = λ name low.
@@ -279,8 +286,8 @@ same_numbers (t ∷ ts) =
     λ i. record t { job = z i } ∷ same_numbers ts i
 
 pub plan_is : (script : Script) (table : Table) (book : SectionBook) (section : Section)
-    → list_any (λ (x : Statement). is_when x.act) script.statements.items ≡ false → IsNext book script table 0 section → IsPlanOf script table section.plan
-plan_is script table book section none n =
+    → list_any (λ (x : Statement). is_when x.act) script.statements.items ≡ false → IsNext book script table 0 section → section.small_jobs ≡ Cut → IsPlanOf script table section.plan
+plan_is script table book section none n cut =
     let o = n.is_section in
     let whole : take n.to script.statements.items ≡ script.statements.items = all (slice_get script.statements.items n.to) refl section.test o.test in
     let last : state_at script table n.to ≡ act_all (setting script table) script.statements.items at_start =
@@ -292,8 +299,9 @@ plan_is script table book section none n =
           ∙ (let z : 0 + plan_refused section.plan ≡ plan_refused section.plan = omega arith in z);
       traps = sym (ap (λ (s : ScriptState). s.traps) last) ∙ o.traps ∙ ap (λ k. map (renumbered k) (plan_traps section.plan)) o.jobs_before
           ∙ same_numbers (plan_traps section.plan);
-      laid_out = subst (λ k. IsLaidOut script table 0 k section.plan)
-          (let e = ap length whole in let few = taken_long n.to script.statements.items in let le = o.rising.1 in omega arith) o.laid_out;
+      laid_out = subst (λ k. IsLaidOut script table Cut 0 k section.plan)
+          (let e = ap length whole in let few = taken_long n.to script.statements.items in let le = o.rising.1 in omega arith)
+          (subst (λ small. IsLaidOut script table small 0 n.to section.plan) cut o.laid_out);
     }
   where
     is_test : (x : Statement) (t : Test) (a : Order) → IsTestOf (setting script table) (state_at script table n.to) (cells_after section.plan) t a

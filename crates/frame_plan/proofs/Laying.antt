@@ -1,6 +1,7 @@
 -- A plan so far that is laid out stays so as it grows by a statement, and as it becomes a whole one.
 use Rattle.std.proofs.Common.{◌≡◌, ℕ, zero, suc, ◌-◌, ◌≤◌, ⊎_elim, false, List, [], ◌∷◌, ◌++◌, Option, None, Some, refl, sym, ap, subst, ◌∙◌, arith, append-nil}
-use Rattle.std.specs.Prelude.{max, nat_le, if◌then◌else◌, slice_get, take}
+use Rattle.std.specs.Prelude.{Vec, max, nat_le, get_or, if◌then◌else◌, slice_get, take}
+use Rattle.std.specs.declared.alloc.Global.{Global}
 use Rattle.std.proofs.lemmas.Bool.{cases_eq, le-leb}
 use Rattle.std.proofs.lemmas.List.{append_assoc, get_or_append_left, length-append}
 use Rattle.job_base.specs.declared.Span.{Span}
@@ -103,11 +104,11 @@ module _ (script : Script) (table : Table) (starts : Starts) where
 
   -- ---- jobs: those so far stay, with their kernels and segments
 
-  job_later : (before : ℕ) (s : ScriptState) (deps : Jobs) (kernel : ℕ) (args : List Arg) (cut defer : Option (ℕ × ℕ)) (waive : List ℕ)
+  job_later : (works : List (Option ℕ)) (before : ℕ) (s : ScriptState) (deps : Jobs) (kernel : ℕ) (args : List Arg) (cut defer : Option (ℕ × ℕ)) (waive : List ℕ)
       (kernels more : List Kernel) (job : JobPlan)
-      → IsJobOf g starts before s deps kernel args cut defer waive kernels job
-      → IsJobOf g starts before s deps kernel args cut defer waive (kernels ++ more) job
-  job_later before s deps kernel args cut defer waive kernels more job j = record {
+      → IsJobOf g works starts before s deps kernel args cut defer waive kernels job
+      → IsJobOf g works starts before s deps kernel args cut defer waive (kernels ++ more) job
+  job_later works before s deps kernel args cut defer waive kernels more job j = record {
     source = j.source;
     is_source = j.is_source;
     copy = j.copy;
@@ -120,18 +121,18 @@ module _ (script : Script) (table : Table) (starts : Starts) where
     deps = j.deps;
   }
 
-  has_later : (before : ℕ) (s : ScriptState) (deps : Jobs) (kernel : ℕ) (args : List Arg) (cut defer : Option (ℕ × ℕ)) (waive : List ℕ)
+  has_later : (works : List (Option ℕ)) (before : ℕ) (s : ScriptState) (deps : Jobs) (kernel : ℕ) (args : List Arg) (cut defer : Option (ℕ × ℕ)) (waive : List ℕ)
       (kernels more : List Kernel) (jobs later : List JobPlan) (k : ℕ)
-      → HasJobOf g starts before s deps kernel args cut defer waive kernels (slice_get jobs k)
-      → HasJobOf g starts before s deps kernel args cut defer waive (kernels ++ more) (slice_get (jobs ++ later) k)
-  has_later before s deps kernel args cut defer waive kernels more jobs later k = by (slice_get jobs k) refl
+      → HasJobOf g works starts before s deps kernel args cut defer waive kernels (slice_get jobs k)
+      → HasJobOf g works starts before s deps kernel args cut defer waive (kernels ++ more) (slice_get (jobs ++ later) k)
+  has_later works before s deps kernel args cut defer waive kernels more jobs later k = by (slice_get jobs k) refl
     where
-      by : (o : Option JobPlan) → slice_get jobs k ≡ o → HasJobOf g starts before s deps kernel args cut defer waive kernels o
-          → HasJobOf g starts before s deps kernel args cut defer waive (kernels ++ more) (slice_get (jobs ++ later) k)
+      by : (o : Option JobPlan) → slice_get jobs k ≡ o → HasJobOf g works starts before s deps kernel args cut defer waive kernels o
+          → HasJobOf g works starts before s deps kernel args cut defer waive (kernels ++ more) (slice_get (jobs ++ later) k)
       by None e h = absurd h
       by (Some job) e h =
-          subst (HasJobOf g starts before s deps kernel args cut defer waive (kernels ++ more)) (sym (get_front jobs later k job e))
-          (job_later before s deps kernel args cut defer waive kernels more job h)
+          subst (HasJobOf g works starts before s deps kernel args cut defer waive (kernels ++ more)) (sym (get_front jobs later k job e))
+          (job_later works before s deps kernel args cut defer waive kernels more job h)
 
   started_later : (segments more : List Segment) (number before : ℕ) (completed : Jobs) → IsStartedAfter segments number before completed
       → IsStartedAfter (segments ++ more) number before completed
@@ -144,19 +145,20 @@ module _ (script : Script) (table : Table) (starts : Starts) where
     waits = h.waits;
   }
 
-  module _ (before : ℕ) (s : ScriptState) (x : Statement) (kernels more : List Kernel) (jobs later : List JobPlan) (segments rest : List Segment) where
+  module _ (works : List (Option ℕ)) (before : ℕ) (s : ScriptState) (x : Statement) (kernels more : List Kernel) (jobs later : List JobPlan)
+      (segments rest : List Segment) where
     abbrev k : ℕ
     k = s.book.count - before
 
-    unless_later : (deps : Jobs) (a : Order) (o : Option Refused) → SchedulesUnless g starts before s deps a o kernels (slice_get jobs k)
-        → SchedulesUnless g starts before s deps a o (kernels ++ more) (slice_get (jobs ++ later) k)
+    unless_later : (deps : Jobs) (a : Order) (o : Option Refused) → SchedulesUnless g works starts before s deps a o kernels (slice_get jobs k)
+        → SchedulesUnless g works starts before s deps a o (kernels ++ more) (slice_get (jobs ++ later) k)
     unless_later deps (Schedule job) None h =
-        has_later before s deps job.value.kernel job.value.args.items job.value.cut job.value.defer job.value.waive.items kernels more jobs later k h
+        has_later works before s deps job.value.kernel job.value.args.items job.value.cut job.value.defer job.value.waive.items kernels more jobs later k h
     unless_later deps (Schedule job) (Some r) h = tt
     unless_later deps a o h = tt
 
-    schedules_later : (deps : Jobs) (passing : ℕ) → Schedules g starts before s deps passing x.act kernels (slice_get jobs k)
-        → Schedules g starts before s deps passing x.act (kernels ++ more) (slice_get (jobs ++ later) k)
+    schedules_later : (deps : Jobs) (passing : ℕ) → Schedules g works starts before s deps passing x.act kernels (slice_get jobs k)
+        → Schedules g works starts before s deps passing x.act (kernels ++ more) (slice_get (jobs ++ later) k)
     schedules_later deps zero h = unless_later deps x.act (refusal g s x.act) h
     schedules_later deps (suc n) h = tt
 
@@ -169,18 +171,18 @@ module _ (script : Script) (table : Table) (starts : Starts) where
     awaits_later zero h = awaits_unless_later x.act (refusal g s x.act) h
     awaits_later (suc n) h = tt
 
-    pub its_job_later : HasItsJob g starts before s x kernels jobs segments → HasItsJob g starts before s x (kernels ++ more) (jobs ++ later) (segments ++ rest)
+    pub its_job_later : HasItsJob g works starts before s x kernels jobs segments → HasItsJob g works starts before s x (kernels ++ more) (jobs ++ later) (segments ++ rest)
     its_job_later h = record { job = schedules_later (deps_after g s x) s.passing h.job; after = awaits_later s.passing h.after }
 
-  pub scheduled_later : (from to : ℕ) (kernels more kernels_now : List Kernel) (jobs later jobs_now : List JobPlan) (segments rest segments_now : List Segment)
+  pub scheduled_later : (works : List (Option ℕ)) (from to : ℕ) (kernels more kernels_now : List Kernel) (jobs later jobs_now : List JobPlan) (segments rest segments_now : List Segment)
       → kernels_now ≡ kernels ++ more → jobs_now ≡ jobs ++ later → segments_now ≡ segments ++ rest
-      → AreScheduled script table starts from to kernels jobs segments → AreScheduled script table starts from to kernels_now jobs_now segments_now
-  scheduled_later from to kernels more kernels_now jobs later jobs_now segments rest segments_now ks js ss h n x low high here =
+      → AreScheduled script table works starts from to kernels jobs segments → AreScheduled script table works starts from to kernels_now jobs_now segments_now
+  scheduled_later works from to kernels more kernels_now jobs later jobs_now segments rest segments_now ks js ss h n x low high here =
       let before = (at_place from).book.count in
-      let a = its_job_later before (at_place n) x kernels more jobs later segments rest (h n x low high here) in
-      subst (λ l. HasItsJob g starts before (at_place n) x l jobs_now segments_now) (sym ks)
-      (subst (λ l. HasItsJob g starts before (at_place n) x (kernels ++ more) l segments_now) (sym js)
-      (subst (λ l. HasItsJob g starts before (at_place n) x (kernels ++ more) (jobs ++ later) l) (sym ss) a))
+      let a = its_job_later works before (at_place n) x kernels more jobs later segments rest (h n x low high here) in
+      subst (λ l. HasItsJob g works starts before (at_place n) x l jobs_now segments_now) (sym ks)
+      (subst (λ l. HasItsJob g works starts before (at_place n) x (kernels ++ more) l segments_now) (sym js)
+      (subst (λ l. HasItsJob g works starts before (at_place n) x (kernels ++ more) (jobs ++ later) l) (sym ss) a))
 
   -- ---- a statement more
 
@@ -190,22 +192,26 @@ module _ (script : Script) (table : Table) (starts : Starts) where
       → HasGrown script table starts q from (suc n)
   grown_more p q from n x here le grows h =
       let before = (at_place from).book.count in
+      let works = p.world.works.items in
       record {
         ranges = ranges_more p q n x here h.ranges grows.first_fit grows.peak;
         spans = grows.spans
             ∙ (let a = h.spans in let b = sym (span_here n x here) in λ i. a i ++ b i)
             ∙ sym (spans_more from n le);
-        jobs = λ m y low high there. ⊎_elim
+        jobs = λ m y low high there.
+            subst (λ (v : Vec (Option ℕ) Global).
+            HasItsJob g v.items starts before (at_place m) y q.draft.kernels.items q.draft.jobs.items q.draft.segments.items) (sym grows.works)
+            (⊎_elim
             (λ (e : m ≡ n). (let same : x ≡ y = some_is (sym here ∙ ap (slice_get script.statements.items) (sym e) ∙ there) in
-            subst (λ k. HasItsJob g starts before (at_place k) y q.draft.kernels.items q.draft.jobs.items q.draft.segments.items) (sym e)
-            (subst (λ z. HasItsJob g starts before (at_place n) z q.draft.kernels.items q.draft.jobs.items q.draft.segments.items) same
+            subst (λ k. HasItsJob g works starts before (at_place k) y q.draft.kernels.items q.draft.jobs.items q.draft.segments.items) (sym e)
+            (subst (λ z. HasItsJob g works starts before (at_place n) z q.draft.kernels.items q.draft.jobs.items q.draft.segments.items) same
             (record { job = grows.schedules; after = grows.awaited h.waited }))))
-            (λ ne. scheduled_later from n
+            (λ ne. scheduled_later works from n
             p.draft.kernels.items grows.kernels_later q.draft.kernels.items
             p.draft.jobs.items grows.jobs_later q.draft.jobs.items
             p.draft.segments.items grows.segments_later q.draft.segments.items
             grows.kernels_are grows.jobs_are grows.segments_are h.jobs m y low (omega arith) there)
-            (cases_eq m n);
+            (cases_eq m n));
         waited = subst (λ s. HasWaited before s q) (next_state script table n x here) (grows.waited h.waited);
         waits = grows.waits
             ∙ (let a = h.waits in let b = next_state script table n x here in λ i. a i ++ unless_none (newly_completed before (at_place n) (b i)))
@@ -219,6 +225,7 @@ pub not_gone : (script : Script) (table : Table) (p : Planner) (begun : ScriptSt
 not_gone script table p begun n found st = record {
   more = [];
   stands = subst (StandsAt p script table begun n) (sym (append-nil found)) st;
+  works = refl;
   grown = λ start starts le count same h. h;
 }
 
@@ -250,6 +257,7 @@ gone_further {script} {table} {old} {p} {q} {begun} {from} {n} {found} {x} accep
     record {
       more = h.more ++ f.more;
       stands = subst (StandsAt q script table begun (suc n)) all f.stands;
+      works = (f.grows (λ k. get_or ((found ++ h.more) ++ f.more) k 0) (λ k lt. refl)).works ∙ h.works;
       grown = λ start starts low count same was.
           let together = subst (StartAs starts) (sym all) same in
           grown_more script table starts p q start n x here (omega arith)

@@ -11,3 +11,4 @@ pub mod Resuming
 pub mod Starting
 pub mod Taking
 pub mod Wholes
+pub mod Working

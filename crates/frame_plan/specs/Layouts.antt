@@ -22,6 +22,8 @@ use Rattle.plan_laws.specs.Leaving.{AllHeld}
 use Rattle.plan_state.specs.declared.state.Planner.{Planner}
 use Rattle.plan_state.specs.Growth.{given_so_far, given_from, span_by, greatest_end, Schedules, deps_after, Awaits, HasWaited, first_jobs, unless_none, waits_of, waits_by, newly_completed}
 use Rattle.plan_state.specs.Steps.{state_at}
+use Rattle.frame_plan.specs.declared.small_jobs.SmallJobs.{SmallJobs}
+use Rattle.frame_plan.specs.Works.{works_by}
 
 -- RANGES
 
@@ -46,20 +48,22 @@ greatest_end_at script table starts n = greatest_end (spans_between script table
 
 -- JOBS
 
--- The statement has its job among these, started by one of these segments.
-pub record HasItsJob (g : Setting) (starts : Starts) (before : ℕ) (s : ScriptState) (x : Statement)
-    (kernels : List Kernel) (jobs : List JobPlan) (segments : List Segment) : Type 0 where
-  pub job : Schedules g starts before s (deps_after g s x) s.passing x.act kernels
+-- The statement has its job among these, cut by what is kept of the work of kernels, and started by one of these
+-- segments.
+pub record HasItsJob (g : Setting) (works : List (Option ℕ)) (starts : Starts) (before : ℕ) (s : ScriptState)
+    (x : Statement) (kernels : List Kernel) (jobs : List JobPlan) (segments : List Segment) : Type 0 where
+  pub job : Schedules g works starts before s (deps_after g s x) s.passing x.act kernels
       (slice_get jobs (s.book.count - before))
   pub after : Awaits g before s s.passing x.act segments
 
 -- So has each accepted schedule from one place up to another, in their order.
-abbrev pub AreScheduled : Script → Table → Starts → ℕ → ℕ → List Kernel → List JobPlan → List Segment → Type 0
-AreScheduled script table starts from to kernels jobs segments = (n : ℕ) (x : Statement)
+abbrev pub AreScheduled : Script → Table → List (Option ℕ) → Starts → ℕ → ℕ → List Kernel → List JobPlan
+    → List Segment → Type 0
+AreScheduled script table works starts from to kernels jobs segments = (n : ℕ) (x : Statement)
     → from ≤ n
     → n < to
     → slice_get script.statements.items n ≡ Some x
-    → HasItsJob (setting script table) starts (state_at script table from).book.count (state_at script table n) x
+    → HasItsJob (setting script table) works starts (state_at script table from).book.count (state_at script table n) x
     kernels jobs segments
 
 -- WAITS
@@ -79,8 +83,9 @@ completed_between script table from (suc n) =
 
 -- A SECTION
 
--- The plan of a section is laid out as the definitions say.
-pub record IsLaidOut (script : Script) (table : Table) (from to : ℕ) (plan : Plan) : Type 0 where
+-- The plan of a section is laid out as the definitions say, with jobs of little work whole or not.
+pub record IsLaidOut (script : Script) (table : Table) (small_jobs : SmallJobs) (from to : ℕ) (plan : Plan)
+    : Type 0 where
   pub starts : Starts
   -- each range has the first fit, and the plan gives just these
   pub ranges : AreFirstFits (setting script table) starts (take to script.statements.items) at_start
@@ -89,7 +94,8 @@ pub record IsLaidOut (script : Script) (table : Table) (from to : ℕ) (plan : P
   pub cells : plan.cells ≡ greatest_end_at script table starts to
   -- its jobs are those of the accepted schedules, each started after what was completed before it
   pub count : length plan.jobs.items + (state_at script table from).book.count ≡ (state_at script table to).book.count
-  pub jobs : AreScheduled script table starts from to plan.kernels.items plan.jobs.items plan.segments.items
+  pub jobs : AreScheduled script table (works_by small_jobs script.kernels.items) starts from to plan.kernels.items
+      plan.jobs.items plan.segments.items
   -- its segments wait for what each statement newly completes, and in the end for all of its jobs, and for nothing else
   pub waits : waits_of plan.segments.items
       ≡ completed_between script table from to ++ unless_none (first_jobs (length plan.jobs.items))
@@ -107,6 +113,7 @@ pub record HasRanges (script : Script) (table : Table) (starts : Starts) (p : Pl
 pub record HasGrown (script : Script) (table : Table) (starts : Starts) (p : Planner) (from at : ℕ) : Type 0 where
   pub ranges : HasRanges script table starts p at
   pub spans : given_so_far p ≡ spans_between script table starts from at
-  pub jobs : AreScheduled script table starts from at p.draft.kernels.items p.draft.jobs.items p.draft.segments.items
+  pub jobs : AreScheduled script table p.world.works.items starts from at p.draft.kernels.items p.draft.jobs.items
+      p.draft.segments.items
   pub waited : HasWaited (state_at script table from).book.count (state_at script table at) p
   pub waits : waits_by p ≡ completed_between script table from at

@@ -104,6 +104,8 @@ pub record HasGone (script : Script) (table : Table) (old new : Planner) (begun 
     (found : List ℕ) (to : ℕ) : Type 0 where
   pub more : List ℕ
   pub stands : StandsAt new script table begun to (found ++ more)
+  -- what is kept of the work of kernels is as it was
+  pub works : new.world.works ≡ old.world.works
   -- its plan has what the statements between add
   pub grown : (start : ℕ) (starts : Starts)
       → start ≤ from

@@ -30,6 +30,8 @@ use Rattle.plan_laws.specs.Planned.{renumbered}
 use Rattle.frame_plan.specs.declared.section.Section.{Section}
 use Rattle.frame_plan.specs.declared.section.Test.{Test}
 use Rattle.frame_plan.specs.declared.sections.SectionBook.{SectionBook}
+use Rattle.frame_plan.specs.declared.small_jobs.SmallJobs.{SmallJobs}
+use Rattle.frame_plan.specs.declared.small_jobs.SmallJobs.TheVariants.{Cut}
 use Rattle.plan_state.specs.declared.state.PlanFault.{PlanFault}
 use Rattle.plan_state.specs.declared.state.PlanFault.TheVariants.{Jobs, Words, NoMemory}
 use Rattle.plan_state.specs.declared.state.Planner.{Planner}
@@ -39,6 +41,7 @@ use Rattle.frame_plan.specs.Layouts.{IsLaidOut, HasRanges, HasGrown}
 use Rattle.frame_plan.specs.Names.{AreNamesOf}
 use Rattle.frame_plan.specs.Runs.{IsActingTest, IsStop, NoneActs, IsEmptied}
 use Rattle.plan_state.specs.Steps.{state_at, StandsAt}
+use Rattle.frame_plan.specs.Works.{works_by}
 
 -- THE LIMITS
 
@@ -82,7 +85,7 @@ pub record IsSectionOf (script : Script) (table : Table) (from to : ℕ) (sectio
   pub traps : (state_at script table to).traps
       ≡ (state_at script table from).traps ++ map (renumbered section.jobs_before) (plan_traps section.plan)
   -- its ranges, jobs and contents are those of the definitions
-  pub laid_out : IsLaidOut script table from to section.plan
+  pub laid_out : IsLaidOut script table section.small_jobs from to section.plan
   pub test : EndsBy (setting script table) (state_at script table to) (cells_after section.plan)
       (slice_get script.statements.items to) section.test
 
@@ -119,6 +122,10 @@ AreLeft mem cells len = (len ≤ length mem) × ((w : ℕ) → w < len → cells
 abbrev pub place_of : SectionBook → ℕ
 place_of book = book.at
 
+-- how it cuts jobs of little work
+abbrev pub small_jobs_of : SectionBook → SmallJobs
+small_jobs_of book = book.small_jobs
+
 -- It took back what this plan has copies of: the names, and the kernels with their codes. All else that it knows is as
 -- it was; which memory it keeps that is needed no more, is its own affair.
 abbrev pub IsTakenBack : SectionBook → Plan → SectionBook → Type 0
@@ -132,6 +139,8 @@ IsTakenBack old plan new = new ≡ record old {
 pub record IsPlannedFrom (book : SectionBook) (script : Script) (table : Table) (from : ℕ) : Type 0 where
   pub accepted : IsAccepted script
   pub within : limit_of (setting script table) script.statements.items ≡ None
+  -- what it keeps of the work of kernels is as it cuts them
+  pub works : book.planner.world.works.items ≡ works_by book.small_jobs script.kernels.items
   -- its plan can take these names over
   pub names : AreNamesOf script book.names.items
   pub found : List ℕ
@@ -161,6 +170,7 @@ pub record IsHandedOut (book : SectionBook) (plan : Plan) (script : Script) (tab
   pub stood : StandsAt old script table begun n found
   pub ranges : (starts : Starts) → StartAs starts found → HasRanges script table starts old n
   pub emptied : IsEmptied old book.planner
+  pub works : book.planner.world.works.items ≡ works_by book.small_jobs script.kernels.items
   pub kernels : plan.kernels.items ≡ old.draft.kernels.items
   pub codes : plan.codes.items ≡ old.draft.codes.items
   pub names : AreNamesOf script plan.names.items
@@ -187,6 +197,8 @@ pub record IsNext (book : SectionBook) (script : Script) (table : Table) (from :
   pub to : ℕ
   pub place : place_of book ≡ to
   pub is_section : IsSectionOf script table from to section
+  -- jobs of little work are cut as the book says
+  pub small_jobs : section.small_jobs ≡ small_jobs_of book
   -- where it ends at a test, this is of a word of the plan
   pub inside : (test : Test) → section.test ≡ Some test → test.at.start < section.plan.cells
   -- the book knows where the contents of each name lie that stands for a container then
@@ -208,5 +220,5 @@ pub record IsPlanOf (script : Script) (table : Table) (plan : Plan) : Type 0 whe
   pub lines : (final (setting script table) script.statements.items).lines ≡ plan_lines plan
   pub refused : (final (setting script table) script.statements.items).refused ≡ plan_refused plan
   pub traps : (final (setting script table) script.statements.items).traps ≡ plan_traps plan
-  -- its ranges, jobs and contents are those of the definitions
-  pub laid_out : IsLaidOut script table 0 (length script.statements.items) plan
+  -- its ranges, jobs and contents are those of the definitions, and its jobs are cut as their schedules say
+  pub laid_out : IsLaidOut script table Cut 0 (length script.statements.items) plan

@@ -6,6 +6,9 @@
 //! (`plan_statements`). Here are the way from statement to statement, the limits of the language, and the sections: a
 //! plan ends at each `when` that acts, and the next one begins with the words that it left.
 //!
+//! To share a job among workers takes locked steps for each piece, so a job of little work gains nothing by it: it may be
+//! one piece ([`SmallJobs`]). Each other job is cut as its schedule says.
+//!
 //! A plan has the ranges and the jobs of the definitions, and no others (`specs/Layouts`). Why it does what its script
 //! says is shown in `plan_laws`.
 //!
@@ -24,10 +27,12 @@ mod planner;
 mod resume;
 mod section;
 mod sections;
+mod small_jobs;
 mod whole;
 
 pub use missing::missing_column;
 pub use plan_state::PlanFault;
 pub use section::{Section, Test};
 pub use sections::SectionBook;
+pub use small_jobs::SmallJobs;
 pub use whole::plan;

@@ -6,8 +6,10 @@ ghost use Rattle.frame_ast.specs.States.{ScriptState};
 ghost use Rattle.frame_plan.specs.Runs.{HasBegun, IsAtStatement, HasPassed, StopsAt, GoesPast, FailsAtPlace, HasRun, PassesOnce};
 ghost use Rattle.plan_state.specs.Steps.{StandsAt};
 ghost use Rattle.plan_statements.specs.Tables.{columns_of};
+ghost use Rattle.frame_plan.specs.Works.{works_by};
 
 use crate::answers::answer;
+use crate::small_jobs::{SmallJobs, works_of};
 use frame_ast::script::{Order, Script, Statement};
 use frame_core::Op;
 use job_base::NoMemory;
@@ -20,8 +22,14 @@ use std::alloc::Global;
 use table_in::Table;
 
 /// At the script's beginning.
-pub(crate) fn at_start(alloc: Global, script: &Script) -> Result<Planner, NoMemory>
-    ensures { IfOk result (λ p. (table : Columns) → HasBegun script.now table p) }
+pub(crate) fn at_start(
+    alloc: Global,
+    script: &Script,
+    small_jobs: SmallJobs,
+) -> Result<Planner, NoMemory>
+    requires accepted { IsAccepted script.now }
+    ensures begun { IfOk result (λ p. (table : Columns) → HasBegun script.now table p) }
+    ensures works { IfOk result (λ p. p.world.works.items ≡ works_by small_jobs script.now.kernels.items) }
 {
     let mut world = World {
         values: dead_values(alloc, script.names.len())?,
@@ -37,6 +45,7 @@ pub(crate) fn at_start(alloc: Global, script: &Script) -> Result<Planner, NoMemo
         store: SlotStore::new(alloc)?,
         created: 0,
         passing: 0,
+        works: works_of(alloc, script, small_jobs)?,
     };
     let mut draft = Draft::none(alloc);
     draft.copies_of = no_copies(alloc, script.kernels.len())?;

@@ -5,7 +5,7 @@ ghost use Rattle.frame_ast.specs.Limits.{limit_of};
 ghost use Rattle.frame_ast.specs.Orders.{Table as Columns, setting};
 ghost use Rattle.merge_laws.specs.Graph.{Cells};
 ghost use Rattle.frame_plan.specs.References.{IsReferenceOf, IsTestFor};
-ghost use Rattle.frame_plan.specs.Sections.{limit_told, passed_after, IsPlannedFrom, IsTakenBack, IsBetween, IsAt, IsOutcome, AreLeft, IsNext, place_of};
+ghost use Rattle.frame_plan.specs.Sections.{limit_told, passed_after, IsPlannedFrom, IsTakenBack, IsBetween, IsAt, IsOutcome, AreLeft, IsNext, place_of, small_jobs_of};
 ghost use Rattle.plan_statements.specs.Tables.{columns_of};
 
 use crate::finishing::finish;
@@ -14,6 +14,7 @@ use crate::names::names_of;
 use crate::planner::{at_start, run};
 use crate::resume::begin;
 use crate::section::{Section, Test};
+use crate::small_jobs::SmallJobs;
 use frame_ast::script::{Order, Script};
 use frame_core::Plan;
 use job_base::{FlatMem, NoMemory};
@@ -28,6 +29,8 @@ use table_in::Table;
 #[derive(Drop)]
 pub struct SectionBook {
     pub(crate) planner: Planner,
+    /// How jobs of little work are cut.
+    pub(crate) small_jobs: SmallJobs,
     /// How many statements were gone through.
     pub(crate) at: u32,
     /// The script's names, for the plan that is handed out next.
@@ -39,7 +42,12 @@ pub struct SectionBook {
 impl SectionBook {
     /// The book at the script's beginning, if the script stays within the limits of the language. Without a `when` it
     /// is what the statements do that counts, with one it is what their text says.
-    pub fn new(alloc: Global, script: &Script, table: &Table) -> Result<SectionBook, PlanFault>
+    pub fn new(
+        alloc: Global,
+        script: &Script,
+        table: &Table,
+        small_jobs: SmallJobs,
+    ) -> Result<SectionBook, PlanFault>
         requires accepted { IsAccepted script.now }
         ensures limit { IfErr result (λ fault. (fault ≡ PlanFault.NoMemory)
             ⊎ (limit_of (setting script.now (columns_of table.now)) script.now.statements.items
@@ -48,15 +56,17 @@ impl SectionBook {
             limit_of (setting script.now (columns_of table.now)) script.now.statements.items ≡ None) }
         ensures at { IfOk result (λ book. (carried : Cells) (len : ℕ)
             → IsAt book script.now (columns_of table.now) 0 carried len) }
+        ensures small_jobs { IfOk result (λ book. small_jobs_of book ≡ small_jobs) }
     {
         if has_test(script) {
             check_text(script, table)?;
         }
-        let mut planner = at_start(alloc, script)?;
+        let mut planner = at_start(alloc, script, small_jobs)?;
         let at = run(&mut planner, alloc, script, table, 0)?;
         let names = names_of(alloc, script)?;
         Ok(SectionBook {
             planner,
+            small_jobs,
             at,
             names,
             spare: Vec::new(alloc),
@@ -91,6 +101,7 @@ impl SectionBook {
             → IsOutcome script.now (columns_of table.now) from held
             → AreLeft cells.old carried len
             → IfOk result (IsNext self.new script.now (columns_of table.now) from) }
+        ensures small_jobs { small_jobs_of self.new ≡ small_jobs_of self.old }
     {
         match held {
             None => self.hand_out(alloc, script),
@@ -125,8 +136,9 @@ impl SectionBook {
     /// The section that is planned, as a whole plan.
     pub(crate) fn hand_out(&mut self, alloc: Global, script: &Script) -> Result<Section, NoMemory>
         requires planned { (table : Columns) × (from : ℕ) × IsPlannedFrom self.old script.now table from }
-        ensures { (table : Columns) (from : ℕ) → IsPlannedFrom self.old script.now table from
+        ensures section { (table : Columns) (from : ℕ) → IsPlannedFrom self.old script.now table from
             → IfOk result (IsNext self.new script.now table from) }
+        ensures small_jobs { self.new.small_jobs ≡ self.old.small_jobs }
     {
         let test = self.test(script);
         let jobs_before = self.planner.world.jobs_before;
@@ -135,6 +147,7 @@ impl SectionBook {
         Ok(Section {
             plan,
             jobs_before,
+            small_jobs: self.small_jobs,
             test,
         })
     }
@@ -180,6 +193,7 @@ impl SectionBook {
             → IsOutcome script.now (columns_of table.now) from (Some held)
             → AreLeft cells carried len
             → IsPlannedFrom self.new script.now (columns_of table.now) from) }
+        ensures small_jobs { self.new.small_jobs ≡ self.old.small_jobs }
     {
         begin(&mut self.planner, cells);
         let statement = &script.statements[self.at as usize];

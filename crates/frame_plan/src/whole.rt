@@ -9,13 +9,15 @@ ghost use Rattle.plan_statements.specs.Tables.{columns_of};
 
 use crate::section::Section;
 use crate::sections::SectionBook;
+use crate::small_jobs::SmallJobs;
 use frame_ast::script::Script;
 use frame_core::Plan;
 use plan_state::PlanFault;
 use std::alloc::Global;
 use table_in::Table;
 
-/// The plan of a script without a `when`, if it stays within the limits of the language.
+/// The plan of a script without a `when`, if it stays within the limits of the language. Each job is cut as its schedule
+/// says.
 pub fn plan(alloc: Global, script: &Script, table: &Table) -> Result<Plan, PlanFault>
     requires accepted { IsAccepted script.now }
     requires whole { list_any (λ x. is_when x.act) script.now.statements.items ≡ false }
@@ -25,10 +27,11 @@ pub fn plan(alloc: Global, script: &Script, table: &Table) -> Result<Plan, PlanF
         limit_of (setting script.now (columns_of table.now)) script.now.statements.items ≡ None) }
     ensures plan { IfOk result (IsPlanOf script.now (columns_of table.now)) }
 {
-    let mut book = SectionBook::new(alloc, script, table)?;
+    let mut book = SectionBook::new(alloc, script, table, SmallJobs::Cut)?;
     let Section {
         plan,
         jobs_before: _,
+        small_jobs: _,
         test: _,
     } = book.hand_out(alloc, script)?;
     Ok(plan)

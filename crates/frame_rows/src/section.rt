@@ -3,7 +3,7 @@ ghost use Rattle.std.specs.Prelude.{IfOk};
 ghost use Rattle.frame_ast.specs.Accepted.{IsAccepted};
 ghost use Rattle.frame_core.specs.Ordered.{IsWellOrderedPlan};
 
-use frame_plan::{Section, SectionBook};
+use frame_plan::{Section, SectionBook, SmallJobs};
 use frame_script::{Script, parse_script};
 use job_base::FlatMem;
 use job_base::limits::MOST_SCRIPT_BYTES;
@@ -58,7 +58,7 @@ pub fn section_in(alloc: Global, text: &str, table: &Table) -> Result<Section, F
 {
     let script = script_in(alloc, text)?;
     let mut cells = FlatMem::new(alloc, 0)?;
-    let mut book = SectionBook::new(alloc, &script, table)?;
+    let mut book = SectionBook::new(alloc, &script, table, SmallJobs::Cut)?;
     Ok(book.next(alloc, &script, table, None, &mut cells)?)
 }
 

@@ -29,6 +29,9 @@ use Rattle.plan_state.specs.Growth.{span_at, span_unless, span_by, greatest_end,
 use Rattle.plan_state.specs.Steps.{state_at}
 use Rattle.frame_plan.specs.declared.section.Section.{Section}
 use Rattle.frame_plan.specs.declared.section.Test.{Test}
+use Rattle.frame_plan.specs.declared.small_jobs.SmallJobs.{SmallJobs}
+use Rattle.frame_plan.specs.declared.small_jobs.SmallJobs.TheVariants.{Cut}
+use Rattle.frame_plan.specs.Works.{works_by}
 use Rattle.frame_plan.specs.Layouts.{span_of, spans_at, spans_between, greatest_end_at, HasItsJob, completed_at, completed_between, IsLaidOut}
 use Rattle.frame_plan.specs.Missing.{is_none, lacks_column}
 use Rattle.frame_plan.specs.Runs.{IsActingTest}
@@ -82,9 +85,10 @@ module _ (g : Setting) (u : Table) where
 
   -- jobs
 
-  module _ (starts : Starts) (before : ℕ) (s : ScriptState) (deps : Jobs) (kernels : List Kernel) where
+  module _ (works : List (Option ℕ)) (starts : Starts) (before : ℕ) (s : ScriptState) (deps : Jobs) (kernels : List Kernel) where
     same_job : (kernel : ℕ) (args : List Arg) (cut defer : Option (ℕ × ℕ)) (waive : List ℕ) (job : JobPlan)
-        → IsJobOf g starts before s deps kernel args cut defer waive kernels job → IsJobOf h starts before s deps kernel args cut defer waive kernels job
+        → IsJobOf g works starts before s deps kernel args cut defer waive kernels job
+        → IsJobOf h works starts before s deps kernel args cut defer waive kernels job
     same_job kernel args cut defer waive job j = record {
       source = j.source;
       is_source = j.is_source;
@@ -99,21 +103,22 @@ module _ (g : Setting) (u : Table) where
     }
 
     has_job_of : (kernel : ℕ) (args : List Arg) (cut defer : Option (ℕ × ℕ)) (waive : List ℕ) (place : Option JobPlan)
-        → HasJobOf g starts before s deps kernel args cut defer waive kernels place → HasJobOf h starts before s deps kernel args cut defer waive kernels place
+        → HasJobOf g works starts before s deps kernel args cut defer waive kernels place
+        → HasJobOf h works starts before s deps kernel args cut defer waive kernels place
     has_job_of kernel args cut defer waive None f = f
     has_job_of kernel args cut defer waive (Some job) f = same_job kernel args cut defer waive job f
 
-    schedules_unless : (x : Order) (r : Option Refused) (place : Option JobPlan) → SchedulesUnless g starts before s deps x r kernels place
-        → SchedulesUnless h starts before s deps x r kernels place
+    schedules_unless : (x : Order) (r : Option Refused) (place : Option JobPlan) → SchedulesUnless g works starts before s deps x r kernels place
+        → SchedulesUnless h works starts before s deps x r kernels place
     schedules_unless (Schedule job) None place f =
         has_job_of job.value.kernel job.value.args.items job.value.cut job.value.defer job.value.waive.items place f
     schedules_unless (Schedule job) (Some r) place f = f
     schedules_unless x r place f = f
 
-    schedules : (n : ℕ) (x : Order) → AnswerAlike g.table u x → (place : Option JobPlan) → Schedules g starts before s deps n x kernels place
-        → Schedules h starts before s deps n x kernels place
+    schedules : (n : ℕ) (x : Order) → AnswerAlike g.table u x → (place : Option JobPlan) → Schedules g works starts before s deps n x kernels place
+        → Schedules h works starts before s deps n x kernels place
     schedules zero x same place f =
-        subst (λ r. SchedulesUnless h starts before s deps x r kernels place) (same_refusal g u s x same) (schedules_unless x (refusal g s x) place f)
+        subst (λ r. SchedulesUnless h works starts before s deps x r kernels place) (same_refusal g u s x same) (schedules_unless x (refusal g s x) place f)
     schedules (suc n) x same place f = f
 
   awaits : (before : ℕ) (s : ScriptState) (n : ℕ) (x : Order) → AnswerAlike g.table u x → (segments : List Segment) → Awaits g before s n x segments
@@ -121,12 +126,13 @@ module _ (g : Setting) (u : Table) where
   awaits before s zero x same segments f = subst (λ r. AwaitsUnless before s x r segments) (same_refusal g u s x same) f
   awaits before s (suc n) x same segments f = f
 
-  has_its_job : (starts : Starts) (before : ℕ) (s : ScriptState) (x : Statement) → AnswerAlike g.table u x.act → (kernels : List Kernel) (jobs : List JobPlan)
-      (segments : List Segment) → HasItsJob g starts before s x kernels jobs segments → HasItsJob h starts before s x kernels jobs segments
-  has_its_job starts before s x same kernels jobs segments j = record {
-    job = subst (λ (deps : Jobs). Schedules h starts before s deps s.passing x.act kernels (slice_get jobs (s.book.count - before)))
+  has_its_job : (works : List (Option ℕ)) (starts : Starts) (before : ℕ) (s : ScriptState) (x : Statement) → AnswerAlike g.table u x.act
+      → (kernels : List Kernel) (jobs : List JobPlan) (segments : List Segment)
+      → HasItsJob g works starts before s x kernels jobs segments → HasItsJob h works starts before s x kernels jobs segments
+  has_its_job works starts before s x same kernels jobs segments j = record {
+    job = subst (λ (deps : Jobs). Schedules h works starts before s deps s.passing x.act kernels (slice_get jobs (s.book.count - before)))
         (ap (λ (t : ScriptState). t.book.deps (suc s.book.count)) (same_act g u s x same))
-        (schedules starts before s (deps_after g s x) kernels s.passing x.act same (slice_get jobs (s.book.count - before)) j.job);
+        (schedules works starts before s (deps_after g s x) kernels s.passing x.act same (slice_get jobs (s.book.count - before)) j.job);
     after = awaits before s s.passing x.act same segments j.after;
   }
 
@@ -206,19 +212,21 @@ module _ (script : Script) (t u : Table) (alike : AnswerAllAlike t u script.stat
 
   -- plans
 
-  same_layout : (from to : ℕ) (plan : Plan) → IsLaidOut script t from to plan → IsLaidOut script u from to plan
-  same_layout from to plan l = record {
+  same_layout : (small : SmallJobs) (from to : ℕ) (plan : Plan) → IsLaidOut script t small from to plan → IsLaidOut script u small from to plan
+  same_layout small from to plan l = record {
     starts = l.starts;
     ranges = first_fits g u l.starts (take to xs) (alike_take t u xs to alike) at_start l.ranges;
     spans = l.spans ∙ same_spans l.starts from to;
     cells = l.cells ∙ same_end l.starts to;
     count = ap (λ n. length plan.jobs.items + n) (sym (counts from)) ∙ l.count ∙ counts to;
     jobs = λ n x low high here.
-        subst (λ before. HasItsJob (setting script u) l.starts before (state_at script u n) x plan.kernels.items plan.jobs.items plan.segments.items)
+        subst (λ before. HasItsJob (setting script u) (works_by small script.kernels.items) l.starts before (state_at script u n) x plan.kernels.items
+        plan.jobs.items plan.segments.items)
         (counts from)
-        (subst (λ s. HasItsJob (setting script u) l.starts (state_at script t from).book.count s x plan.kernels.items plan.jobs.items plan.segments.items)
+        (subst (λ s. HasItsJob (setting script u) (works_by small script.kernels.items) l.starts (state_at script t from).book.count s x plan.kernels.items
+        plan.jobs.items plan.segments.items)
         (states n)
-        (has_its_job g u l.starts (state_at script t from).book.count (state_at script t n) x (at n x here) plan.kernels.items plan.jobs.items
+        (has_its_job g u (works_by small script.kernels.items) l.starts (state_at script t from).book.count (state_at script t n) x (at n x here) plan.kernels.items plan.jobs.items
         plan.segments.items (l.jobs n x low high here)));
     waits = l.waits ∙ ap (λ c. c ++ unless_none (first_jobs (length plan.jobs.items))) (same_completed from to);
     contents = subst (λ s. AllHeld l.starts s (cells_after plan)) (states to) l.contents;
@@ -230,7 +238,7 @@ module _ (script : Script) (t u : Table) (alike : AnswerAllAlike t u script.stat
     lines = sym (ap (λ (s : ScriptState). s.lines) means.last) ∙ p.lines;
     refused = sym (ap (λ (s : ScriptState). s.refused) means.last) ∙ p.refused;
     traps = sym (ap (λ (s : ScriptState). s.traps) means.last) ∙ p.traps;
-    laid_out = same_layout 0 (length xs) plan p.laid_out;
+    laid_out = same_layout Cut 0 (length xs) plan p.laid_out;
   }
 
   -- sections
@@ -249,7 +257,7 @@ module _ (script : Script) (t u : Table) (alike : AnswerAllAlike t u script.stat
         ∙ ap (λ (s : ScriptState). s.refused + plan_refused section.plan) (states from);
     traps = sym (ap (λ (s : ScriptState). s.traps) (states to)) ∙ p.traps
         ∙ ap (λ (s : ScriptState). s.traps ++ map (renumbered section.jobs_before) (plan_traps section.plan)) (states from);
-    laid_out = same_layout from to section.plan p.laid_out;
+    laid_out = same_layout section.small_jobs from to section.plan p.laid_out;
     test = subst (λ s. EndsBy (setting script u) s (cells_after section.plan) (slice_get xs to) section.test) (states to)
         (ends_by g u (state_at script t to) (cells_after section.plan) (slice_get xs to) section.test p.test);
   }

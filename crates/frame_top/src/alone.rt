@@ -24,7 +24,7 @@ use crate::sections::{Progress, begin_frame, close, finish, next_section, take_r
 use crate::status::{NO_MEMORY, PAST_LIMIT};
 use crate::texts::{refuse_plan, refuse_source, refuse_table, say};
 use frame_ast::script::Script;
-use frame_plan::SectionBook;
+use frame_plan::{SectionBook, SmallJobs};
 use frame_script::{LoadFault, parse_script};
 use job_base::limits::{MOST_SCRIPT_BYTES, MOST_TABLE_BYTES, MOST_TESTS};
 use job_base::{FlatMem, NoMemory, Sink};
@@ -106,7 +106,7 @@ fn answer_frame<S: Sink>(alloc: Global, script: &Script, table: &Table, sink: &m
     if let Some(status) = refuse_missing(script, table, sink) {
         return status;
     }
-    match SectionBook::new(alloc, script, table) {
+    match SectionBook::new(alloc, script, table, SmallJobs::Whole) {
         Ok(book) => run_sections(alloc, script, table, book, sink),
         Err(fault) => refuse_plan(fault, sink),
     }

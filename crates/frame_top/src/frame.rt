@@ -41,9 +41,10 @@ pub fn first_when(script: &Script) -> Option<u32>
 fn column_name(act: &Order) -> &[u8]
     ensures { result.now ≡ column_name act.now }
 {
-    match act {
-        Order::Column { column, .. } => column,
-        _ => b"",
+    if let Order::Column { column, .. } = act {
+        column
+    } else {
+        b""
     }
 }
 
@@ -128,7 +129,7 @@ fn answer_run<R: Threads + Wait + Sync, S: Sink, W: Watch>(
         alloc,
         count: workers,
     };
-    match SectionBook::new(alloc, script, table) {
+    match SectionBook::new(alloc, script, table, watch.small_jobs()) {
         Ok(book) => run_sections(&workers, script, table, book, sink, watch),
         Err(fault) => refuse_plan(fault, sink),
     }

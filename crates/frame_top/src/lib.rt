@@ -17,6 +17,8 @@
 //! The steps that read and refuse are public too, for programs that do something else with a script than run it, and so
 //! are the steps from section to section, for those who run a section themselves.
 //!
+//! A job of little work is one piece, unless what looks on asks for the pieces as they are scheduled.
+//!
 //! A table is read for its script: of the columns that no statement names no value is kept. `table_laws` says that
 //! nothing depends on them.
 //!

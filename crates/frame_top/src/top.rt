@@ -22,6 +22,7 @@ use crate::texts::{refuse_source, refuse_table, say};
 use crate::watch::{GateAlone, Watch};
 use command_words::{Command, WordsFault, read_words};
 use frame_ast::script::Script;
+use frame_plan::SmallJobs;
 use frame_script::{LoadFault, parse_script};
 use job_base::{FileFault, Files, Gate, Sink};
 use std::alloc::Global;
@@ -219,7 +220,8 @@ pub fn run_watched<R: Threads + Wait + Sync, F: Files, S: Sink, W: Watch>(
 ///
 /// The work is done in this order: the words; the script's bytes; what they parse to; the table's bytes; what they
 /// hold; the columns that the script names; with `--depth`, whether it has a `when`; the limits on jobs and words; the
-/// run. The first step that refuses decides the status.
+/// run. The first step that refuses decides the status. A job of little work is run as one piece, so `gate` may see
+/// fewer pieces than are scheduled.
 ///
 /// | Status | Text |
 /// |---|---|
@@ -292,6 +294,9 @@ pub fn run_frame<R: Threads + Wait + Sync, F: Files, S: Sink, G: Gate + Sync>(
     ensures taken_all { result ≢ UNWRITTEN → S.faults sink.new ≡ S.faults sink.old }
     ensures read_all { result ≢ UNREAD → result ≢ UNWRITTEN → F.faults files.new ≡ F.faults files.old }
 {
-    let mut watch = GateAlone { gate };
+    let mut watch = GateAlone {
+        gate,
+        small_jobs: SmallJobs::Whole,
+    };
     run_watched(rt, alloc, words, files, sink, &mut watch)
 }

@@ -7,7 +7,7 @@ ghost use Rattle.frame_top.specs.Seen.{SectionAt, section_at};
 
 use crate::extent::Extent;
 use frame_ast::script::Script;
-use frame_plan::Section;
+use frame_plan::{Section, SmallJobs};
 use job_base::{Gate, NoMemory};
 use std::alloc::Global;
 
@@ -38,6 +38,9 @@ pub trait Watch {
         ensures begun { OnOk result ((first : Self) (earlier : List SectionAt) → Saw script.now first self.old earlier
             → Begun script.now first self.new earlier (section_at extent section.now)) };
 
+    /// How jobs of little work are cut: who looks at the pieces gets them as they are scheduled.
+    fn small_jobs(&self) -> SmallJobs;
+
     /// The gate round the pieces of the section that was begun last.
     fn gate(&self) -> &Self::Gate;
 
@@ -55,6 +58,8 @@ pub trait Watch {
 #[derive(Drop)]
 pub struct GateAlone<'a, G> {
     pub gate: &'a G,
+    /// How jobs of little work are cut.
+    pub small_jobs: SmallJobs,
 }
 
 impl<G: Gate + Sync> Watch for GateAlone<'_, G> {
@@ -72,6 +77,10 @@ impl<G: Gate + Sync> Watch for GateAlone<'_, G> {
         _section: &Section,
     ) -> Result<(), NoMemory> {
         Ok(())
+    }
+
+    fn small_jobs(&self) -> SmallJobs {
+        self.small_jobs
     }
 
     fn gate(&self) -> &G {

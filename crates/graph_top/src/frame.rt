@@ -14,7 +14,7 @@ ghost use Rattle.graph_top.specs.Due.{FrameEndsTo, IsShown};
 use crate::drawing::picture_text;
 use crate::watch::DrawingWatch;
 use frame_ast::script::Script;
-use frame_plan::{SectionBook, plan};
+use frame_plan::{SectionBook, SmallJobs, plan};
 use frame_print::print_text;
 use frame_top::status::{DONE, NO_MEMORY, UNWRITTEN, has_run};
 use frame_top::{Workers, first_when, refuse_missing, refuse_plan, run_sections};
@@ -125,7 +125,7 @@ fn draw_run<R: Threads + Wait + Sync, S: Sink, E: Sink>(
     ensures later { S.faults sink.old ≤ S.faults sink.new }
     ensures notes_later { E.faults notes.old ≤ E.faults notes.new }
 {
-    let book = match SectionBook::new(alloc, script, table) {
+    let book = match SectionBook::new(alloc, script, table, SmallJobs::Cut) {
         Ok(book) => book,
         Err(fault) => return refuse_plan(fault, notes),
     };

@@ -5,7 +5,7 @@ ghost use Rattle.graph_top.specs.Drawn.{HasDrawn, head_of};
 
 use crate::drawing::{head_text, section_text};
 use frame_ast::script::Script;
-use frame_plan::Section;
+use frame_plan::{Section, SmallJobs};
 use frame_top::{Extent, Watch};
 use frame_view::{Part, Place};
 use job_base::{NoMemory, OpenGate};
@@ -85,6 +85,10 @@ impl Watch for DrawingWatch {
         self.text.push_str(text.as_str())?;
         self.number = self.number.saturating_add(1);
         Ok(())
+    }
+
+    fn small_jobs(&self) -> SmallJobs {
+        SmallJobs::Cut
     }
 
     fn gate(&self) -> &OpenGate {

@@ -226,6 +226,7 @@ module _ {script : Script} {table : Table} {p : Planner} {x : Statement} (b : Is
       still = record {
         spans = given_closed p.draft.segments.items d.segments.items i.segment p.draft.ops.items d.ops.items i.segments i.ops_were i.ops;
         peak = c.peak;
+        works = ap (λ (k : World). k.works) c.rest;
         jobs = ap (λ (k : Draft). k.jobs.items) i.rest;
         kernels = ap (λ (k : Draft). k.kernels.items) i.rest;
         segments_later = i.segment ∷ [];
@@ -297,7 +298,7 @@ module _ {script : Script} {table : Table} {p : Planner} {x : Statement} (b : Is
     ended_on is plain =
         plain_steps b p (subst (λ u. Stands p g begun (suc n) u found) (sym (is ∙ same))
         (continued st stay st.knows.known st.knows.names (λ y a. st.planned y a)))
-        (record { spans = refl; peak = refl; jobs = refl; kernels = refl; segments = refl; waits = refl })
+        (record { spans = refl; peak = refl; works = refl; jobs = refl; kernels = refl; segments = refl; waits = refl })
         plain (ap (λ (u : ScriptState). u.book.completed) (is ∙ same))
 
 -- ---- a statement that completes some jobs goes on by what that leaves to do

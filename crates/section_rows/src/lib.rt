@@ -16,6 +16,8 @@ mod plans;
 #[cfg(test)]
 mod replays;
 #[cfg(test)]
+mod small_jobs;
+#[cfg(test)]
 mod statements;
 #[cfg(test)]
 mod tested_limits;

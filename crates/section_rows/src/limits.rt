@@ -1,6 +1,6 @@
 // Scripts at the limits of what is planned.
 
-use frame_plan::{PlanFault, SectionBook};
+use frame_plan::{PlanFault, SectionBook, SmallJobs};
 use frame_rows::script_of;
 use job_base::FlatMem;
 use std::alloc::Global;
@@ -12,7 +12,7 @@ fn fault_of(alloc: Global, lines: &str) -> Result<Option<PlanFault>, Fail> {
     let script = script_of(alloc, lines)?;
     let table = Table::none(alloc);
     let mut cells = FlatMem::new(alloc, 0)?;
-    let mut book = match SectionBook::new(alloc, &script, &table) {
+    let mut book = match SectionBook::new(alloc, &script, &table, SmallJobs::Cut) {
         Ok(book) => book,
         Err(fault) => return Ok(Some(fault)),
     };

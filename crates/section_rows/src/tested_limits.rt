@@ -1,7 +1,7 @@
 // Scripts with a test at the limits of what is planned. There the text is counted, and not what acts.
 
 use crate::texts::{push_line, wanted_in};
-use frame_plan::{PlanFault, SectionBook};
+use frame_plan::{PlanFault, SectionBook, SmallJobs};
 use frame_rows::script_of;
 use std::alloc::Global;
 use std::process::Abort;
@@ -11,7 +11,7 @@ use table_in::Table;
 // Why a script has no plan, if it has none.
 fn fault_of(alloc: Global, lines: &str) -> Result<Option<PlanFault>, Fail> {
     let script = script_of(alloc, lines)?;
-    match SectionBook::new(alloc, &script, &Table::none(alloc)) {
+    match SectionBook::new(alloc, &script, &Table::none(alloc), SmallJobs::Cut) {
         Ok(_) => Ok(None),
         Err(fault) => Ok(Some(fault)),
     }

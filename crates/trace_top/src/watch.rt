@@ -5,7 +5,7 @@ ghost use Rattle.frame_top.specs.Seen.{SectionAt, section_at};
 ghost use Rattle.trace_top.specs.Traced.{AreTraces, HasTraced, IsTraceOf};
 
 use frame_ast::script::Script;
-use frame_plan::Section;
+use frame_plan::{Section, SmallJobs};
 use frame_record::Recorder;
 use frame_top::{Extent, Watch};
 use frame_view::{Part, follow_part};
@@ -150,6 +150,10 @@ impl<'a, C: Clock + Sync> Watch for TraceWatch<'a, C> {
             self.start = self.begun;
         }
         Ok(())
+    }
+
+    fn small_jobs(&self) -> SmallJobs {
+        SmallJobs::Cut
     }
 
     fn gate(&self) -> &Recorder<'a, C> {

@@ -1,7 +1,8 @@
 // Whole frames: command lines that are answered over files and a sink in memory.
 
+use frame_plan::SmallJobs;
 use frame_rows::KERNELS;
-use frame_top::run_frame;
+use frame_top::{GateAlone, run_frame, run_watched};
 use job_base::{Gate, MemFiles, MemSink, OpenGate};
 use std::alloc::Global;
 use std::sync::Wait;
@@ -57,6 +58,15 @@ fn files_of(alloc: Global, given: &Given) -> Result<MemFiles, Fail> {
     Ok(files.ok().ok_or("memory")?)
 }
 
+// The words of a command line, each in memory of its own.
+fn owned(alloc: Global, words: &[&str]) -> Result<Vec<String>, Fail> {
+    let mut all = Vec::new(alloc);
+    for word in words {
+        all.push(String::from_str(alloc, *word)?)?;
+    }
+    Ok(all)
+}
+
 /// The status of a command line.
 pub fn answer<R: Threads + Wait + Sync + AllocGlobal, G: Gate + Sync>(
     rt: &R,
@@ -66,10 +76,7 @@ pub fn answer<R: Threads + Wait + Sync + AllocGlobal, G: Gate + Sync>(
     gate: &G,
 ) -> Result<u8, Fail> {
     let alloc = rt.alloc();
-    let mut all = Vec::new(alloc);
-    for word in words {
-        all.push(String::from_str(alloc, *word)?)?;
-    }
+    let all = owned(alloc, words)?;
     let mut files = files_of(alloc, given)?;
     Ok(run_frame(rt, alloc, &all, &mut files, sink, gate))
 }
@@ -100,6 +107,26 @@ pub fn status_of<R: Threads + Wait + Sync + AllocGlobal, G: Gate + Sync>(
 ) -> Result<u8, Fail> {
     let all = with_workers(rt.alloc(), workers, words)?;
     answer(rt, &all, given, sink, gate)
+}
+
+/// The same where jobs of little work are cut too, so that the gate sees all pieces that are scheduled.
+pub fn status_of_cut<R: Threads + Wait + Sync + AllocGlobal, G: Gate + Sync>(
+    rt: &R,
+    workers: &str,
+    words: &[&str],
+    given: &Given,
+    sink: &mut MemSink,
+    gate: &G,
+) -> Result<u8, Fail> {
+    let alloc = rt.alloc();
+    let all = with_workers(alloc, workers, words)?;
+    let all = owned(alloc, &all)?;
+    let mut files = files_of(alloc, given)?;
+    let mut watch = GateAlone {
+        gate,
+        small_jobs: SmallJobs::Cut,
+    };
+    Ok(run_watched(rt, alloc, &all, &mut files, sink, &mut watch))
 }
 
 /// A sink with room for all that a frame writes here.

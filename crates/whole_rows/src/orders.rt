@@ -1,6 +1,6 @@
 // Frames whose pieces are let in in a given order.
 
-use crate::frames::{Given, sink_of, status_of, with_kernels};
+use crate::frames::{Given, sink_of, status_of_cut, with_kernels};
 use frame_rows::texts::TOTAL;
 use job_base::{OrderGate, PieceId};
 use std::sync::Wait;
@@ -61,7 +61,7 @@ fn is_kept<R: Threads + Wait + Sync + AllocGlobal>(
     }
     let gate = OrderGate::new(alloc, pieces, turns)?;
     let mut sink = sink_of(rt)?;
-    if status_of(rt, workers, &["s"], &given, &mut sink, &gate)? != frame.status {
+    if status_of_cut(rt, workers, &["s"], &given, &mut sink, &gate)? != frame.status {
         return Err(Fail::new("another status"));
     }
     if sink.bytes() != frame.text.as_bytes() {

@@ -1,6 +1,6 @@
 // Frames whose pieces are watched.
 
-use crate::frames::{Given, WORKERS, sink_of, status_of, with_kernels};
+use crate::frames::{Given, WORKERS, sink_of, status_of, status_of_cut, with_kernels};
 use job_base::{Gate, NoMemory, PieceId};
 use std::alloc::Global;
 use std::sync::atomic::{AtomicBool, Ordering};
@@ -41,6 +41,14 @@ impl NotingGate {
                 .iter()
                 .all(|piece| piece.load(Ordering::SeqCst))
     }
+
+    // Whether a piece came.
+    fn saw(&self, piece: usize) -> bool {
+        match self.entered.get(piece) {
+            Some(entered) => entered.load(Ordering::SeqCst),
+            None => false,
+        }
+    }
 }
 
 impl Gate for NotingGate {
@@ -67,11 +75,30 @@ fn each_piece_is_run_once(rt: HostRuntime) -> Result<(), Fail> {
         let gate = NotingGate::new(alloc, 128)?;
         let mut sink = sink_of(&rt)?;
         assert_eq!(rt;
-            status_of(&rt, workers, &["s"], &given, &mut sink, &gate)?,
+            status_of_cut(&rt, workers, &["s"], &given, &mut sink, &gate)?,
             0
         );
         assert_eq!(rt; sink.bytes(), b"".as_slice());
         assert!(rt; gate.saw_each_once());
+    }
+    Ok(())
+}
+
+// The two jobs are little work, so each is one piece where nobody asks for the pieces as they are scheduled. With the
+// four pieces of the script's own thread there are six, and no more.
+#[test]
+fn little_work_is_one_piece(rt: HostRuntime) -> Result<(), Fail> {
+    let alloc = rt.alloc();
+    let script = with_kernels(alloc, WIDE)?;
+    let given = Given::script(&script);
+    for workers in WORKERS {
+        let gate = NotingGate::new(alloc, 128)?;
+        let mut sink = sink_of(&rt)?;
+        assert_eq!(rt;
+            status_of(&rt, workers, &["s"], &given, &mut sink, &gate)?,
+            0
+        );
+        assert!(rt; gate.saw(0) && gate.saw(5) && !gate.saw(6));
     }
     Ok(())
 }

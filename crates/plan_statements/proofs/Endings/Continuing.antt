@@ -190,6 +190,7 @@ pub quiet_continued : (p q : Planner) (s t : ScriptState) (found : List ℕ) →
 quiet_continued p q s t found r same segments waits = record {
   spans = same;
   peak = r.peak;
+  works = ap (λ (k : Planner). k.world.works) r.planner;
   jobs = ap (λ (k : Planner). k.draft.jobs.items) r.planner;
   kernels = ap (λ (k : Planner). k.draft.kernels.items) r.planner;
   segments = ap (λ (v : Vec Segment Global). v.items) segments;

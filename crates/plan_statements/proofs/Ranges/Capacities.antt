@@ -317,7 +317,12 @@ module _ {script : Script} {table : Table} {p : Planner} {line name cap : ℕ}
         capacity_goes_on w draft span at was small m has =
             range_steps b (record p { world = w; draft = draft }) (cap + 1) span
             (record { line = line; name = name; act = Move (record { start = at.start; len = at.cap + 1 }) span })
-            (record { fit = m.regrown.fit; len = m.regrown.len_is; peak = m.regrown.peak })
+            (record {
+              fit = m.regrown.fit;
+              len = m.regrown.len_is;
+              peak = m.regrown.peak;
+              works = ap (λ (z : World). z.works) m.rest;
+            })
             (record {
               ops = has.ops;
               segments = ap (λ (z : Draft). z.segments) has.rest;

@@ -302,7 +302,12 @@ module _ {script : Script} {table : Table} {p : Planner} {x : Statement} (b : Is
     }
 
     found_is : HasFound p u (words_of c) t.span
-    found_is = record { fit = words.fit; len = words.len_is; peak = ap (λ (z : World). peak_of z.store) after ∙ words.peak }
+    found_is = record {
+      fit = words.fit;
+      len = words.len_is;
+      peak = ap (λ (z : World). peak_of z.store) after ∙ words.peak;
+      works = ap (λ (z : World). z.works) after;
+    }
 
     pub goes_on : HasStepped b u
     goes_on =

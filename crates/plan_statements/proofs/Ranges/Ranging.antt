@@ -31,11 +31,12 @@ pub record HasOneMore (p q : Planner) (op : Op) : Type 0 where
   pub jobs : q.draft.jobs ≡ p.draft.jobs
   pub kernels : q.draft.kernels ≡ p.draft.kernels
 
--- The store gave so many words, which are the first fit.
+-- The store gave so many words, which are the first fit. What is kept of the work of kernels stays.
 pub record HasFound (p q : Planner) (words : ℕ) (span : Span) : Type 0 where
   pub fit : IsFirstFit (is_live_word p.world.store) words span.start
   pub len : span.len ≡ words
   pub peak : peak_of q.world.store ≡ max (peak_of p.world.store) (span.start + words)
+  pub works : q.world.works ≡ p.world.works
 
 module _ {script : Script} {table : Table} {p : Planner} {x : Statement} (b : IsBefore script table p x) (q : Planner)
     (words : ℕ) (span : Span) (op : Op) (has : HasFound p q words span) (more : HasOneMore p q op) (gives : given_by op.act ≡ span ∷ [])
@@ -101,7 +102,8 @@ module _ {script : Script} {table : Table} {p : Planner} {x : Statement} (b : Is
           jobs_are = (let e = more.jobs in λ i. (e i).items) ∙ sym (append-nil p.draft.jobs.items);
           kernels_later = [];
           kernels_are = (let e = more.kernels in λ i. (e i).items) ∙ sym (append-nil p.draft.kernels.items);
-          schedules = plain_schedules g starts before s (deps_after g s x) q.draft.kernels.items
+          works = has.works;
+          schedules = plain_schedules g p.world.works.items starts before s (deps_after g s x) q.draft.kernels.items
               (slice_get q.draft.jobs.items (s.book.count - before)) x.act s.passing job;
           waited = λ h j pos. (λ i. has_job (waits_in (segments i).items ++ (waits i).items) j) ∙ h j pos ∙ ap (λ jobs. later before jobs j) (sym completed);
           awaited = λ h. plain_awaits g before s q.draft.segments.items x.act s.passing job;

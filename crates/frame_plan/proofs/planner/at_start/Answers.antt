@@ -4,8 +4,8 @@ use Rattle.plan_state.specs.declared.state.Value.TheVariants.{Dead}
 use Rattle.frame_plan.proofs.Starting.{begun_new}
 use Rattle.frame_plan.proofs.planner.at_start.Goals as goal
 
-pub returns : goal.returns
-returns c table =
+pub returns-clause-begun : goal.returns-clause-begun
+returns-clause-begun c table =
     let names : c.len.result ≡ length c.args.script.now.names.items = (let e = c.len.ensures in let l = c.args.script.now.names.ok.0 in omega arith) in
     let kernels : c.len-2.result ≡ length c.args.script.now.kernels.items =
     (let e = c.len-2.ensures in let l = c.args.script.now.kernels.ok.0 in omega arith) in

@@ -1,4 +1,6 @@
-use Rattle.std.proofs.Common.{◌≡◌, ◌⊎◌, inl, inr, [], refl, sym, ◌∙◌, arith}
+use Rattle.std.proofs.Common.{◌≡◌, ℕ, Option, ap, ◌⊎◌, inl, inr, [], refl, sym, ◌∙◌, arith}
+use Rattle.std.specs.Prelude.{Vec}
+use Rattle.std.specs.declared.alloc.Global.{Global}
 use Rattle.frame_ast.specs.Limits.{limit_of}
 use Rattle.frame_ast.specs.Orders.{setting}
 use Rattle.frame_ast.specs.States.{at_start}
@@ -13,7 +15,7 @@ use Rattle.frame_plan.proofs.sections.SectionBook.new.Goals as goal
 use Rattle.frame_plan.proofs.sections.SectionBook.new.Goals.{then-has_test+in_ok-check_text, else-has_test}
 
 pub run-requires-clause-stands : goal.run-requires-clause-stands
-run-requires-clause-stands c = (at_start, [], (c.in_ok-planner.ensures (columns_of c.args.table.now)).stands)
+run-requires-clause-stands c = (at_start, [], (c.in_ok-planner.ensures.begun (columns_of c.args.table.now)).stands)
 
 pub returns-in_err-at-clause-limit : goal.returns-in_err-at-clause-limit
 returns-in_err-at-clause-limit c =
@@ -33,7 +35,7 @@ returns-clause-within c =
       | then-has_test+in_ok-check_text w ↦ inl (sym c.has_test.ensures ∙ w.if-has_test.true, w.in_ok-check_text.ensures)
       | else-has_test w ↦ inr (sym c.has_test.ensures ∙ w.if-has_test.false)
     ] in
-    let ran = c.in_ok-at.ensures.ran at_start [] (c.in_ok-planner.ensures t).stands in
+    let ran = c.in_ok-at.ensures.ran at_start [] (c.in_ok-planner.ensures.begun t).stands in
     limit_none c.args.script.now t c.in_ok-at.at asked ran.stops (stands_within c.run.new.planner (setting c.args.script.now t) at_start c.in_ok-at.at
     (state_at c.args.script.now t c.in_ok-at.at) ran.gone.more ran.gone.stands)
 
@@ -44,16 +46,17 @@ returns-clause-at c carried len =
       | then-has_test+in_ok-check_text w ↦ inl (sym c.has_test.ensures ∙ w.if-has_test.true, w.in_ok-check_text.ensures)
       | else-has_test w ↦ inr (sym c.has_test.ensures ∙ w.if-has_test.false)
     ] in
-    let ran = c.in_ok-at.ensures.ran at_start [] (c.in_ok-planner.ensures t).stands in
+    let ran = c.in_ok-at.ensures.ran at_start [] (c.in_ok-planner.ensures.begun t).stands in
     record {
       accepted = c.requires.accepted;
       within = limit_none c.args.script.now t c.in_ok-at.at asked ran.stops
           (stands_within c.run.new.planner (setting c.args.script.now t) at_start c.in_ok-at.at
           (state_at c.args.script.now t c.in_ok-at.at) ran.gone.more ran.gone.stands);
+      works = ap (λ (v : Vec (Option ℕ) Global). v.items) ran.gone.works ∙ c.in_ok-planner.ensures.works;
       names = c.in_ok-names.ensures;
       found = ran.gone.more;
       stands = ran.gone.stands;
-      grown = λ starts same. ran.gone.grown 0 starts (omega arith) refl same ((c.in_ok-planner.ensures t).grown starts);
+      grown = λ starts same. ran.gone.grown 0 starts (omega arith) refl same ((c.in_ok-planner.ensures.begun t).grown starts);
       rising = omega arith;
       inside = ran.inside;
       stops = ran.stops;

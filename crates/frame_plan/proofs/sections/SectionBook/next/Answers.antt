@@ -52,10 +52,11 @@ returns-in_ok-resume-in-Some c =
     let t = columns_of c.args.table.now in
     record {
       section = λ from carried len at out left.
-          c.hand_out-in-Some.ensures t from
+          c.hand_out-in-Some.ensures.section t from
           (c.in_ok-resume-in-Some.ensures.planned from carried len
           (respared c.args.self.now c.args.script.now t from carried len _
           (answered c.args.self.now c.args.script.now t from carried len c.args.held c.in-Some.held c.in-Some.is at out))
           (subst (IsOutcome c.args.script.now t from) c.in-Some.is out)
           (subst (λ m. AreLeft m carried len) (sym c.replace-left.ensures.value) left));
+      small_jobs = c.hand_out-in-Some.ensures.small_jobs ∙ c.in_ok-resume-in-Some.ensures.small_jobs;
     }

@@ -1,10 +1,12 @@
-use Rattle.std.proofs.Common.{◌++◌, refl, sym, subst, arith}
+use Rattle.std.proofs.Common.{◌++◌, ◌∙◌, refl, sym, ap, subst, arith}
 use Rattle.frame_plan.specs.declared.sections.SectionBook.{SectionBook}
+use Rattle.plan_state.specs.declared.state.Planner.{Planner}
 use Rattle.plan_state.specs.Steps.{state_at}
 use Rattle.plan_statements.specs.Tables.{columns_of}
 use Rattle.plan_state.proofs.Accessing.{read_some}
 use Rattle.frame_plan.proofs.Carrying.{growing_on}
 use Rattle.frame_plan.proofs.Laying.{fewer}
+use Rattle.frame_plan.proofs.Working.{works_kept}
 use Rattle.frame_plan.proofs.Resuming.{below, place_back, place_small, resumed_with, standing_on, no_limit}
 use Rattle.frame_plan.specs.Names.{AreNamesOf}
 use Rattle.frame_plan.proofs.sections.SectionBook.resume.Goals as goal
@@ -69,6 +71,8 @@ returns-in-Ok c = record {
       record {
         accepted = b.accepted;
         within = b.within;
+        works = works_kept c.args.script.now between.before between.plan c.args.self.now c.run.new.planner.world.works between.taken_back
+            (ran.gone.works ∙ ap (λ (p : Planner). p.world.works) resumed.rest) b.works;
         names = subst (λ (k : SectionBook). AreNamesOf c.args.script.now k.names.items) (sym between.taken_back) b.names;
         found = b.found ++ ran.gone.more;
         stands = ran.gone.stands;
@@ -83,4 +87,5 @@ returns-in-Ok c = record {
         between = λ n x low. ran.between n x (omega arith);
         later = λ some. omega arith;
       };
+  small_jobs = refl;
 }
