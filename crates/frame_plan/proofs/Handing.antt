@@ -286,7 +286,8 @@ same_numbers (t ∷ ts) =
     λ i. record t { job = z i } ∷ same_numbers ts i
 
 pub plan_is : (script : Script) (table : Table) (book : SectionBook) (section : Section)
-    → list_any (λ (x : Statement). is_when x.act) script.statements.items ≡ false → IsNext book script table 0 section → section.small_jobs ≡ Cut → IsPlanOf script table section.plan
+    → list_any (λ (x : Statement). is_when x.act) script.statements.items ≡ false → IsNext book script table 0 section → section.small_jobs ≡ Cut
+    → IsPlanOf script table section.plan
 plan_is script table book section none n cut =
     let o = n.is_section in
     let whole : take n.to script.statements.items ≡ script.statements.items = all (slice_get script.statements.items n.to) refl section.test o.test in

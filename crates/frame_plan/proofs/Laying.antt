@@ -104,7 +104,8 @@ module _ (script : Script) (table : Table) (starts : Starts) where
 
   -- ---- jobs: those so far stay, with their kernels and segments
 
-  job_later : (works : List (Option ℕ)) (before : ℕ) (s : ScriptState) (deps : Jobs) (kernel : ℕ) (args : List Arg) (cut defer : Option (ℕ × ℕ)) (waive : List ℕ)
+  job_later : (works : List (Option ℕ)) (before : ℕ) (s : ScriptState) (deps : Jobs) (kernel : ℕ) (args : List Arg)
+      (cut defer : Option (ℕ × ℕ)) (waive : List ℕ)
       (kernels more : List Kernel) (job : JobPlan)
       → IsJobOf g works starts before s deps kernel args cut defer waive kernels job
       → IsJobOf g works starts before s deps kernel args cut defer waive (kernels ++ more) job
@@ -121,7 +122,8 @@ module _ (script : Script) (table : Table) (starts : Starts) where
     deps = j.deps;
   }
 
-  has_later : (works : List (Option ℕ)) (before : ℕ) (s : ScriptState) (deps : Jobs) (kernel : ℕ) (args : List Arg) (cut defer : Option (ℕ × ℕ)) (waive : List ℕ)
+  has_later : (works : List (Option ℕ)) (before : ℕ) (s : ScriptState) (deps : Jobs) (kernel : ℕ) (args : List Arg)
+      (cut defer : Option (ℕ × ℕ)) (waive : List ℕ)
       (kernels more : List Kernel) (jobs later : List JobPlan) (k : ℕ)
       → HasJobOf g works starts before s deps kernel args cut defer waive kernels (slice_get jobs k)
       → HasJobOf g works starts before s deps kernel args cut defer waive (kernels ++ more) (slice_get (jobs ++ later) k)
@@ -171,10 +173,12 @@ module _ (script : Script) (table : Table) (starts : Starts) where
     awaits_later zero h = awaits_unless_later x.act (refusal g s x.act) h
     awaits_later (suc n) h = tt
 
-    pub its_job_later : HasItsJob g works starts before s x kernels jobs segments → HasItsJob g works starts before s x (kernels ++ more) (jobs ++ later) (segments ++ rest)
+    pub its_job_later : HasItsJob g works starts before s x kernels jobs segments
+        → HasItsJob g works starts before s x (kernels ++ more) (jobs ++ later) (segments ++ rest)
     its_job_later h = record { job = schedules_later (deps_after g s x) s.passing h.job; after = awaits_later s.passing h.after }
 
-  pub scheduled_later : (works : List (Option ℕ)) (from to : ℕ) (kernels more kernels_now : List Kernel) (jobs later jobs_now : List JobPlan) (segments rest segments_now : List Segment)
+  pub scheduled_later : (works : List (Option ℕ)) (from to : ℕ) (kernels more kernels_now : List Kernel) (jobs later jobs_now : List JobPlan)
+      (segments rest segments_now : List Segment)
       → kernels_now ≡ kernels ++ more → jobs_now ≡ jobs ++ later → segments_now ≡ segments ++ rest
       → AreScheduled script table works starts from to kernels jobs segments → AreScheduled script table works starts from to kernels_now jobs_now segments_now
   scheduled_later works from to kernels more kernels_now jobs later jobs_now segments rest segments_now ks js ss h n x low high here =

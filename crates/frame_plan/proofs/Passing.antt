@@ -51,7 +51,8 @@ passed_by script table p x some at =
       stands = subst (Stands q g at.begun (suc at.n) (state_at script table (suc at.n))) (sym (append-nil at.found))
           (subst (λ t. Stands q g at.begun (suc at.n) t at.found) next (repassed p g at.begun at.n s at.found at.stands (p.world.passing - 1)));
       grows = λ starts same. passed_grows g s x starts at.begun.book.count p q
-          (quiet_still g s x at.begun.book.count p q (record { spans = refl; peak = refl; works = refl; jobs = refl; kernels = refl; segments = refl; waits = refl })
+          (quiet_still g s x at.begun.book.count p q
+          (record { spans = refl; peak = refl; works = refl; jobs = refl; kernels = refl; segments = refl; waits = refl })
           (ap (λ (u : ScriptState). u.book.completed) now))
           (p.world.passing - 1) e;
     }

@@ -6,8 +6,8 @@
 //! (`plan_statements`). Here are the way from statement to statement, the limits of the language, and the sections: a
 //! plan ends at each `when` that acts, and the next one begins with the words that it left.
 //!
-//! To share a job among workers takes locked steps for each piece, so a job of little work gains nothing by it: it may be
-//! one piece ([`SmallJobs`]). Each other job is cut as its schedule says.
+//! To share a job among workers takes locked steps for each piece, so a job of little work gains nothing by it: it may
+//! be one piece ([`SmallJobs`]). Each other job is cut as its schedule says.
 //!
 //! A plan has the ranges and the jobs of the definitions, and no others (`specs/Layouts`). Why it does what its script
 //! says is shown in `plan_laws`.

@@ -16,8 +16,8 @@ use plan_state::PlanFault;
 use std::alloc::Global;
 use table_in::Table;
 
-/// The plan of a script without a `when`, if it stays within the limits of the language. Each job is cut as its schedule
-/// says.
+/// The plan of a script without a `when`, if it stays within the limits of the language. Each job is cut as its
+/// schedule says.
 pub fn plan(alloc: Global, script: &Script, table: &Table) -> Result<Plan, PlanFault>
     requires accepted { IsAccepted script.now }
     requires whole { list_any (λ x. is_when x.act) script.now.statements.items ≡ false }

@@ -28,6 +28,41 @@ pub fn small_copy(order: &Order) -> Option<Order>
     ensures plain { IfSome result (λ copy. is_when copy ≡ false) }
 {
     match order {
+        Order::Array {
+            name,
+            len,
+            life,
+            values,
+        } => Some(Order::Array {
+            name: *name,
+            len: *len,
+            life: *life,
+            values: *values,
+        }),
+        Order::List { name, cap, life } => Some(Order::List {
+            name: *name,
+            cap: *cap,
+            life: *life,
+        }),
+        Order::Slice {
+            name,
+            of,
+            start,
+            len,
+        } => Some(Order::Slice {
+            name: *name,
+            of: *of,
+            start: *start,
+            len: *len,
+        }),
+        Order::View { name, of } => Some(Order::View {
+            name: *name,
+            of: *of,
+        }),
+        Order::Copy { name, of } => Some(Order::Copy {
+            name: *name,
+            of: *of,
+        }),
         Order::Set { name, at, value } => Some(Order::Set {
             name: *name,
             at: *at,
@@ -54,15 +89,10 @@ pub fn small_copy(order: &Order) -> Option<Order>
         Order::Clear { name } => Some(Order::Clear { name: *name }),
         Order::Complete { name } => Some(Order::Complete { name: *name }),
         Order::Print { name } => Some(Order::Print { name: *name }),
-        Order::Array { .. }
-        | Order::Column { .. }
-        | Order::List { .. }
+        Order::Column { .. }
         | Order::Reference { .. }
         | Order::Map { .. }
         | Order::Stream { .. }
-        | Order::Slice { .. }
-        | Order::View { .. }
-        | Order::Copy { .. }
         | Order::SetCapacity { .. }
         | Order::Schedule(_)
         | Order::Combine { .. }

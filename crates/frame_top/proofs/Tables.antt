@@ -226,7 +226,8 @@ module _ (script : Script) (t u : Table) (alike : AnswerAllAlike t u script.stat
         (subst (λ s. HasItsJob (setting script u) (works_by small script.kernels.items) l.starts (state_at script t from).book.count s x plan.kernels.items
         plan.jobs.items plan.segments.items)
         (states n)
-        (has_its_job g u (works_by small script.kernels.items) l.starts (state_at script t from).book.count (state_at script t n) x (at n x here) plan.kernels.items plan.jobs.items
+        (has_its_job g u (works_by small script.kernels.items) l.starts (state_at script t from).book.count (state_at script t n) x (at n x here)
+        plan.kernels.items plan.jobs.items
         plan.segments.items (l.jobs n x low high here)));
     waits = l.waits ∙ ap (λ c. c ++ unless_none (first_jobs (length plan.jobs.items))) (same_completed from to);
     contents = subst (λ s. AllHeld l.starts s (cells_after plan)) (states to) l.contents;

@@ -100,7 +100,8 @@ module _ (line : ℕ) (home : Box NewJob Global) (asked : NewJob) where
       pub book : (act g s x).book ≡ with_job s.book waited
       pub job_is : (starts : Starts)
           → StartAs starts found
-          → IsJobOf g kept starts begun.book.count s waited asked.kernel asked.args.items asked.cut asked.defer asked.waive.items new.draft.kernels.items job
+          → IsJobOf g kept starts begun.book.count s waited asked.kernel asked.args.items asked.cut asked.defer asked.waive.items
+          new.draft.kernels.items job
 
     module _ (none : refusal g s x.act ≡ None) (segment : Segment) (job : JobPlan) (waited : Jobs) (is : HasStarted segment job waited) where
       spans_stay : given_so_far new ≡ given_so_far p
@@ -124,7 +125,8 @@ module _ (line : ℕ) (home : Box NewJob Global) (asked : NewJob) where
       job_there starts h =
           subst (λ o. HasJobOf g kept starts begun.book.count s (deps_after g s x) asked.kernel asked.args.items asked.cut asked.defer asked.waive.items
           new.draft.kernels.items o) (sym at_place)
-          (subst (λ set. IsJobOf g kept starts begun.book.count s set asked.kernel asked.args.items asked.cut asked.defer asked.waive.items new.draft.kernels.items
+          (subst (λ set. IsJobOf g kept starts begun.book.count s set asked.kernel asked.args.items asked.cut asked.defer asked.waive.items
+          new.draft.kernels.items
           job) (sym set_is) (is.job_is starts h))
 
       schedules : (starts : Starts) → StartAs starts found

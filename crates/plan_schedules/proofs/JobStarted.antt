@@ -332,7 +332,8 @@ module _ (line : ℕ) (home : Box NewJob Global) (asked : NewJob)
         up_to_all ids k m le h i e lt = let low = h i e lt in omega arith
 
         -- it is the planned job of what it runs
-        pub job_as : (y : Outline) → Agrees as_q g begun found y → (numbers : Option (ℕ × ℕ)) → IsCutBy p.world.works.items asked.kernel numbers run.cut → (b : List Bind) (i : ℕ)
+        pub job_as : (y : Outline) → Agrees as_q g begun found y → (numbers : Option (ℕ × ℕ)) → IsCutBy p.world.works.items asked.kernel numbers run.cut
+            → (b : List Bind) (i : ℕ)
             → IsChecked kernel → run.binds.items ≡ b → run.cut.n ≡ i
             → (kernel.parallel ≡ false → (run.cut.n ≡ 1) × (run.cut.step ≡ 1))
             → (run.parallel ≡ true → (kernel.parallel ≡ true) × (asked.waive.items ≡ []))

@@ -236,7 +236,8 @@ pub record Grows (g : Setting) (s : ScriptState) (x : Statement) (starts : Start
   pub kernels_are : new.draft.kernels.items ≡ old.draft.kernels.items ++ kernels_later
   -- what is kept of the work of kernels stays, and the next job is the one that is scheduled
   pub works : new.world.works ≡ old.world.works
-  pub schedules : Schedules g old.world.works.items starts before s (deps_after g s x) s.passing x.act new.draft.kernels.items
+  pub schedules : Schedules g old.world.works.items starts before s (deps_after g s x) s.passing x.act
+      new.draft.kernels.items
       (slice_get new.draft.jobs.items (s.book.count - before))
   -- what was waited for stays what is completed, and the next job is started after just that
   pub waited : HasWaited before s old → HasWaited before (act g s x) new

@@ -236,7 +236,8 @@ module _ (line : ℕ) (home : Box NewJob Global) (asked : NewJob) (list batch : 
         copied = copy.guards.guarded;
         binds = binds_are;
         indexes = indexes_are;
-        step = r.cut_by.step ∙ ap (λ cap. step_of cap (batch_for p.world.works.items asked.kernel cap batch)) (ap (λ (w : ListAt). w.cap) same_at ∙ the_list.cap);
+        step = r.cut_by.step ∙ ap (λ cap. step_of cap (batch_for p.world.works.items asked.kernel cap batch))
+            (ap (λ (w : ListAt). w.cap) same_at ∙ the_list.cap);
         parallel = r.parallel;
       }
 

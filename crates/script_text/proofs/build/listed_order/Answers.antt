@@ -27,7 +27,8 @@ returns-then-opens_values-clause-form c begun =
     let here = noted_at notes i _ e c.loop-index-test.true c.event-event.ensures in
     let within : i < length (events_of notes) = noted_within notes i c.loop-index-test.true in
     c.array_with.ensures.form
-    ∙ (opened_read (events_of notes) i e r within c.loop-index.invariant (ap (λ x. opens_values x.action) here ∙ sym c.opens_values.ensures ∙ c.if-opens_values.true) begun).0
+    ∙ (opened_read (events_of notes) i e r within c.loop-index.invariant
+    (ap (λ x. opens_values x.action) here ∙ sym c.opens_values.ensures ∙ c.if-opens_values.true) begun).0
 
 pub returns-then-opens_values-clause-read : goal.returns-then-opens_values-clause-read
 returns-then-opens_values-clause-read c begun =
@@ -38,7 +39,8 @@ returns-then-opens_values-clause-read c begun =
     let here = noted_at notes i _ e c.loop-index-test.true c.event-event.ensures in
     let within : i < length (events_of notes) = noted_within notes i c.loop-index-test.true in
     c.array_with.ensures.read
-    ∙ (opened_read (events_of notes) i e r within c.loop-index.invariant (ap (λ x. opens_values x.action) here ∙ sym c.opens_values.ensures ∙ c.if-opens_values.true) begun).1
+    ∙ (opened_read (events_of notes) i e r within c.loop-index.invariant
+    (ap (λ x. opens_values x.action) here ∙ sym c.opens_values.ensures ∙ c.if-opens_values.true) begun).1
 
 pub returns-then-ends-clause-form : goal.returns-then-ends-clause-form
 returns-then-ends-clause-form c begun =
@@ -50,7 +52,8 @@ returns-then-ends-clause-form c begun =
     let within : i < length (events_of notes) = noted_within notes i c.loop-index-test.true in
     c.finish.ensures
     ∙ ap (λ x. finished x.action r) (sym here)
-    ∙ (ended_read (events_of notes) i e r within c.loop-index.invariant (ap (λ x. opens_values x.action) here ∙ sym c.opens_values.ensures ∙ c.if-opens_values.false)
+    ∙ (ended_read (events_of notes) i e r within c.loop-index.invariant
+    (ap (λ x. opens_values x.action) here ∙ sym c.opens_values.ensures ∙ c.if-opens_values.false)
     (ap (λ x. ends x.action) here ∙ sym c.ends.ensures ∙ c.if-ends.true) begun).0
 
 pub returns-then-ends-clause-read : goal.returns-then-ends-clause-read
@@ -62,7 +65,8 @@ returns-then-ends-clause-read c begun =
     let here = noted_at notes i _ e c.loop-index-test.true c.event-event.ensures in
     let within : i < length (events_of notes) = noted_within notes i c.loop-index-test.true in
     ended_place (events_of notes) i begun within
-    (ended_read (events_of notes) i e r within c.loop-index.invariant (ap (λ x. opens_values x.action) here ∙ sym c.opens_values.ensures ∙ c.if-opens_values.false)
+    (ended_read (events_of notes) i e r within c.loop-index.invariant
+    (ap (λ x. opens_values x.action) here ∙ sym c.opens_values.ensures ∙ c.if-opens_values.false)
     (ap (λ x. ends x.action) here ∙ sym c.ends.ensures ∙ c.if-ends.true) begun).1
 
 pub unreachable-requires : goal.unreachable-requires
