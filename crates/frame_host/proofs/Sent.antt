@@ -19,6 +19,7 @@ use Rattle.plan_state.proofs.state.World.TheSendSync as world
 use Rattle.plan_state.specs.contracts.state.Draft as draft
 use Rattle.plan_state.specs.contracts.state.Planner as planner
 use Rattle.frame_plan.specs.contracts.sections.SectionBook as book
+use Rattle.frame_plan.proofs.small_jobs.SmallJobs.TheSendSync as small_jobs
 use Rattle.frame_print.proofs.outgoing.Outgoing.TheSendSync as outgoing
 use Rattle.frame_core.proofs.report.Report.TheSendSync as report
 use Rattle.plan_run.proofs.run_end.RunEnd.TheSendSync as run_end
@@ -132,12 +133,15 @@ book_fields_send : IsSend book.the_field.row
 book_fields_send = struct_send (shape book.the_type) (
   planner_fields_send,
   (
-    search sendable depth 60 fits 20000,
+    search (sendable, small_jobs.the_send) depth 60 fits 20000,
     (
-      search (sendable, crosses, String-send) depth 60 fits 20000,
+      search sendable depth 60 fits 20000,
       (
-        search (sendable, crosses) depth 60 fits 20000,
-        tt,
+        search (sendable, crosses, String-send) depth 60 fits 20000,
+        (
+          search (sendable, crosses) depth 60 fits 20000,
+          tt,
+        ),
       ),
     ),
   ),

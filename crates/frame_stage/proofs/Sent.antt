@@ -8,6 +8,7 @@ use Rattle.std.proofs.Crossing.{crosses}
 use Rattle.frame_core.proofs.Sent.{plan_fields_send, plan_fields_sync}
 use Rattle.frame_plan.specs.contracts.section.Section as section
 use Rattle.frame_plan.proofs.section.Test.TheSendSync as test
+use Rattle.frame_plan.proofs.small_jobs.SmallJobs.TheSendSync as small_jobs
 use Rattle.steal_pool.proofs.crew.Shared.TheSendSync as shared
 use Rattle.steal_pool.proofs.place.Place.TheSendSync as place
 use Rattle.word_board.proofs.board.WordBoard.TheSendSync as board
@@ -24,8 +25,11 @@ section_fields_send = struct_send (shape section.the_type) (
   (
     search sendable depth 60 fits 20000,
     (
-      search (sendable, crosses, test.the_send) depth 60 fits 20000,
-      tt,
+      search (sendable, small_jobs.the_send) depth 60 fits 20000,
+      (
+        search (sendable, crosses, test.the_send) depth 60 fits 20000,
+        tt,
+      ),
     ),
   ),
 )
@@ -36,8 +40,11 @@ section_fields_sync = struct_sync (shape section.the_type) (
   (
     search sendable depth 60 fits 20000,
     (
-      search (sendable, crosses, test.the_sync) depth 60 fits 20000,
-      tt,
+      search (sendable, small_jobs.the_sync) depth 60 fits 20000,
+      (
+        search (sendable, crosses, test.the_sync) depth 60 fits 20000,
+        tt,
+      ),
     ),
   ),
 )
