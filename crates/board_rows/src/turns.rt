@@ -218,6 +218,20 @@ fn run_turns<R: Threads + Wait + Sync, P: ShowsPlan + Sync>(
     run_turns_on(rt, alloc, plan, board, seats, sink)
 }
 
+// The same of a plan as it is, which threads may share.
+fn run_plan_turns<R: Threads + Wait + Sync>(
+    rt: &R,
+    alloc: Global,
+    plan: &Plan,
+    places: u32,
+    sink: &mut MemSink,
+) -> Result<FlatMem, Fail>
+    requires well { IsWellOrderedPlan plan.now }
+    ensures left { IfOk result (AreCellsOf plan.now) }
+{
+    run_turns(rt, alloc, plan, places, sink)
+}
+
 // On one thread, and on four.
 #[test]
 fn by_turns(rt: HostRuntime) -> Result<(), Fail> {
@@ -226,7 +240,7 @@ fn by_turns(rt: HostRuntime) -> Result<(), Fail> {
     for places in [1, 4] {
         for _ in 0..20 {
             let mut sink = MemSink::new(alloc, 100, 100, Vec::new(alloc))?;
-            run_turns(&rt, alloc, &section.plan, places, &mut sink)?;
+            run_plan_turns(&rt, alloc, &section.plan, places, &mut sink)?;
             assert_eq!(rt; sink.bytes(), b"t = 30\n".as_slice());
         }
     }
@@ -247,7 +261,7 @@ fn many_pieces(rt: HostRuntime) -> Result<(), Fail> {
     let section = section_by(alloc, MANY)?;
     for _ in 0..20 {
         let mut sink = MemSink::new(alloc, 10_000, 10_000, Vec::new(alloc))?;
-        run_turns(&rt, alloc, &section.plan, 4, &mut sink)?;
+        run_plan_turns(&rt, alloc, &section.plan, 4, &mut sink)?;
         assert_eq!(rt; sink.bytes(), b"s = [0, 2, 4, 16]\n".as_slice());
     }
     Ok(())
