@@ -74,7 +74,7 @@ pub record Accepts (names : List String) (said : List (ℕ × Said)) : Type 0 wh
   pub accepted : (at : Place) → IsAccepted (script at names said)
 
 computed : {names : List String} {said : List (ℕ × Said)} (kinds : List NameKind)
-    → ((at : Place) → (length kinds ≡ length (script at names said).names.items) × (fit names said kinds at ≡ true) × Counts (script at names said))
+    → ((at : Place) → (length kinds ≡ length (script at names said).names) × (fit names said kinds at ≡ true) × Counts (script at names said))
     → Accepts names said
 computed kinds each = record {
   accepted = λ at. record {

@@ -14,7 +14,7 @@ use Rattle.frame_ast.specs.JobRuns.{Run}
 use Rattle.frame_ast.specs.States.{ScriptState}
 use Rattle.frame_ast.specs.Orders.{Table, setting}
 use Rattle.frame_ast.specs.Scripts.{final, output_at, status_at, output_of, status_of}
-use Rattle.ast_rows.proofs.Trees.{Place, boxed, vec, text}
+use Rattle.ast_rows.proofs.Trees.{Place, boxed, vec}
 use Rattle.ast_rows.proofs.Kernel.{kernel, run, same_runs}
 use Rattle.ast_rows.proofs.Kernels.{kernels}
 
@@ -202,7 +202,7 @@ statements at number n ((line, fills x life values) ∷ more) =
 abbrev pub script : Place → List String → List (ℕ × Said) → Script
 script at names said = record {
   kernels = vec at (map (kernel at) kernels);
-  names = vec at (map (λ n. text at (codes n)) names);
+  names = map (λ n. codes n) names;
   literals = vec at (map (vec at) (literals said));
   statements = vec at (statements at (number_of names) 0 said);
 }

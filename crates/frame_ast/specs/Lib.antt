@@ -25,5 +25,6 @@ pub mod Kinds
 pub mod Fitting
 -- for this crate's own contracts, and for those that cite them
 pub mod Lists
+pub mod JoinedTexts
 pub mod SameJobs
 pub mod Simulation

@@ -5,6 +5,7 @@ ghost use Rattle.frame_ast.specs.Accepted.{is_when};
 ghost use Rattle.frame_ast.specs.Orders.{compares};
 
 use crate::kernel::Kernel;
+use crate::name_texts::NameTexts;
 
 /// How long a container may live.
 #[derive(Clone, Copy, Debug, PartialEq, Eq)]
@@ -235,7 +236,7 @@ pub struct Statement {
 pub struct Script {
     pub kernels: Vec<Kernel>,
     /// In the order in which statements make them first.
-    pub names: Vec<String>,
+    pub names: NameTexts,
     /// The values of arrays that are made with some.
     pub literals: Vec<Vec<i64>>,
     pub statements: Vec<Statement>,

@@ -113,6 +113,6 @@ pub record SameStatement (x y : Statement) : Type 0 where
 
 pub record SameScript (s t : Script) : Type 0 where
   pub kernels : Pairwise SameKernel s.kernels.items t.kernels.items
-  pub names : map (λ v. string_bytes v) s.names.items ≡ map (λ v. string_bytes v) t.names.items
+  pub names : s.names ≡ t.names
   pub literals : map (λ v. v.items) s.literals.items ≡ map (λ v. v.items) t.literals.items
   pub statements : Pairwise SameStatement s.statements.items t.statements.items
