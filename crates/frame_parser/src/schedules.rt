@@ -1,8 +1,8 @@
 //! Lines of `schedule`, which are taken at once, phrase by phrase.
 //!
 //! They are the commonest lines of long frames: a name, a kernel, its arguments, and what the job waits for. Where a
-//! phrase is another than those that are known here (a sum as an argument, `defer`, `waive`), what was noted of the line
-//! is taken back, and the line is taken token by token.
+//! phrase is another than those that are known here (a sum as an argument, `defer`, `waive`), what was noted of the
+//! line is taken back, and the line is taken token by token.
 
 ghost use Rattle.std.specs.Prelude.{◌<◌, ◌≤◌, ◌+◌, ◌^◌, length, map, IfOk};
 ghost use Rattle.known_lines.specs.Lines.{MayTakeAll, TakesLines, TakesPhrase, items_on};
@@ -29,8 +29,8 @@ fn take_more<T: HasKind>(
 ) -> Result<usize, AllocError>
     requires within { from ≤ length tokens.now }
     requires few { length tokens.now < 2 ^ 25 }
-    ensures { IfOk result (λ place. TakesPhrase more_arguments_on more_arguments_on (map T.kind_of tokens.now) from place
-        (events_of events.old.items) (events_of events.new.items)) }
+    ensures { IfOk result (λ place. TakesPhrase more_arguments_on more_arguments_on (map T.kind_of tokens.now)
+        from place (events_of events.old.items) (events_of events.new.items)) }
 {
     let mut place = from;
     while let Some(next) = take_one_of(

@@ -12,8 +12,8 @@ note_at-requires g c =
 
 pub returns-in_ok-note_at : goal.returns-in_ok-note_at
 returns-in_ok-note_at g c =
-    phrase_taken items_on items_on (map g.T.HasKind.kind_of c.args.tokens.now) c.args.kinds.now c.args.notes.now c.args.place (events_of c.args.events.now.items)
-    (events_of c.note_at.new.events.items) c.requires.line.phrase (c.are_at.ensures.there c.if-are_at.true)
+    phrase_taken items_on items_on (map g.T.HasKind.kind_of c.args.tokens.now) c.args.kinds.now c.args.notes.now c.args.place
+    (events_of c.args.events.now.items) (events_of c.note_at.new.events.items) c.requires.line.phrase (c.are_at.ensures.there c.if-are_at.true)
     (omega (arith, c.are_at.ensures.room c.if-are_at.true, length-map c.args.tokens.now g.T.HasKind.kind_of)) c.in_ok-note_at.ensures
 
 pub returns-else-are_at : goal.returns-else-are_at

@@ -18,8 +18,9 @@ take_more-requires-clause-within g c =
 
 pub returns-in_default : goal.returns-in_default
 returns-in_default g c =
-    phrase_missing arguments_on more_arguments_on (map g.T.HasKind.kind_of c.args.tokens.now) c.args.place c.in_ok-first.field-0 (events_of c.args.events.now.items)
-    (events_of c.take_one_of.new.events.items) c.in_default.is (c.in_ok-first.ensures arguments_on more_arguments_on named_is numbered_is)
+    phrase_missing arguments_on more_arguments_on (map g.T.HasKind.kind_of c.args.tokens.now) c.args.place c.in_ok-first.field-0
+    (events_of c.args.events.now.items) (events_of c.take_one_of.new.events.items) c.in_default.is
+    (c.in_ok-first.ensures arguments_on more_arguments_on named_is numbered_is)
 
 pub returns : goal.returns
 returns g c =

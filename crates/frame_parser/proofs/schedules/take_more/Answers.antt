@@ -12,8 +12,8 @@ loop-next-preserved g c =
     let kinds = map g.T.HasKind.kind_of c.args.tokens.now in
     let taken = phrase_some more_arguments_on more_arguments_on kinds c.loop-next.place c.in-Some.next c.in_ok-next.field-0 (events_of c.loop-next.events.items)
     (events_of c.take_one_of.new.events.items) c.in-Some.is (c.in_ok-next.ensures more_arguments_on more_arguments_on next_named_is next_numbered_is) in
-    then_phrase more_arguments_on more_arguments_on more_arguments_on kinds c.args.from c.loop-next.place c.in-Some.next (events_of c.args.events.now.items) (events_of c.loop-next.events.items)
-    (events_of c.take_one_of.new.events.items) c.loop-next.invariant taken.1
+    then_phrase more_arguments_on more_arguments_on more_arguments_on kinds c.args.from c.loop-next.place c.in-Some.next
+    (events_of c.args.events.now.items) (events_of c.loop-next.events.items) (events_of c.take_one_of.new.events.items) c.loop-next.invariant taken.1
 
 pub loop-next-smaller : goal.loop-next-smaller
 loop-next-smaller g c =
@@ -24,6 +24,6 @@ loop-next-smaller g c =
 
 pub returns : goal.returns
 returns g c =
-    phrases_end more_arguments_on more_arguments_on (map g.T.HasKind.kind_of c.args.tokens.now) c.args.from c.loop-next.place c.in_ok-next.field-0 (events_of c.args.events.now.items)
-    (events_of c.loop-next.events.items) (events_of c.take_one_of.new.events.items) c.in_default.is c.loop-next.invariant
+    phrases_end more_arguments_on more_arguments_on (map g.T.HasKind.kind_of c.args.tokens.now) c.args.from c.loop-next.place c.in_ok-next.field-0
+    (events_of c.args.events.now.items) (events_of c.loop-next.events.items) (events_of c.take_one_of.new.events.items) c.in_default.is c.loop-next.invariant
     (c.in_ok-next.ensures more_arguments_on more_arguments_on next_named_is next_numbered_is)

@@ -18,8 +18,8 @@ take_names-requires-clause-within g c =
 
 pub returns-in-Some : goal.returns-in-Some
 returns-in-Some g c =
-    let taken = phrase_some sizes_on items_on (map g.T.HasKind.kind_of c.args.tokens.now) c.args.place c.in-Some.next c.in_ok-next.field-0 (events_of c.args.events.now.items)
-    (events_of c.take_one_of.new.events.items) c.in-Some.is (c.in_ok-next.ensures sizes_on items_on end_is sizes_end_is) in
+    let taken = phrase_some sizes_on items_on (map g.T.HasKind.kind_of c.args.tokens.now) c.args.place c.in-Some.next c.in_ok-next.field-0
+    (events_of c.args.events.now.items) (events_of c.take_one_of.new.events.items) c.in-Some.is (c.in_ok-next.ensures sizes_on items_on end_is sizes_end_is) in
     taken.1
 
 pub returns-in_default-2 : goal.returns-in_default-2

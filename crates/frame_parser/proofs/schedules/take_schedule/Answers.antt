@@ -20,7 +20,8 @@ returns-in-None g c =
     let noted = all_none items_on items_on kinds c.args.place c.in_ok-next.field-0 (events_of c.args.events.now.items)
     (events_of c.take_known.new.events.items) c.in-None.is c.in_ok-next.ensures in
     let same : c.len-noted.result ≡ length c.args.events.now.items = omega (arith, c.len-noted.ensures, c.args.events.now.ok.0) in
-    let back : events_of c.truncate.new.self.items ≡ events_of c.args.events.now.items = ap events_of c.truncate.ensures.items ∙ taken_back event_of c.args.events.now.items c.take_known.new.events.items c.len-noted.result same noted in
+    let back : events_of c.truncate.new.self.items ≡ events_of c.args.events.now.items =
+    ap events_of c.truncate.ensures.items ∙ taken_back event_of c.args.events.now.items c.take_known.new.events.items c.len-noted.result same noted in
     let within : c.args.place ≤ length kinds = omega (arith, c.requires.within, length-map c.args.tokens.now g.T.HasKind.kind_of) in
     subst (λ es. TakesLines kinds c.args.place (c.args.place + 0) (events_of c.args.events.now.items) es) (sym back)
     (none_taken kinds c.args.place (events_of c.args.events.now.items) within)
