@@ -1,5 +1,5 @@
 -- Phrases of a line that are taken one after another.
-use Rattle.std.proofs.Common.{◌≡◌, ℕ, ◌<◌, [], List, Result, Ok, Err, IfOk, Option, Some, None, length, map, take, take_all, sym, ◌∙◌, ap, subst, arith}
+use Rattle.std.proofs.Common.{◌≡◌, ℕ, ◌<◌, ◌≤◌, [], List, Result, Ok, Err, IfOk, Option, Some, None, IfSome, length, map, take, take_all, sym, ◌∙◌, ap, subst, arith}
 use Rattle.std.proofs.lemmas.List.{append-nil, take-append-le, length-map}
 use Rattle.std.specs.List.{take-map}
 use Rattle.frame_grammar.specs.declared.token_kind.TokenKind.{TokenKind}
@@ -24,6 +24,12 @@ all_some from to tokens place next o es fs is may = subst (λ x. MayTakeAll from
 pub all_none : (from to : List Symbol) (tokens : List TokenKind) (place : ℕ) (o : Option ℕ) (es fs : List Event) → o ≡ None
     → MayTakeAll from to tokens place o es fs → Noted es fs
 all_none from to tokens place o es fs is may = subst (λ x. MayTakeAll from to tokens place x es fs) is may
+
+-- phrases end no earlier than they begin
+pub all_onward : (from to : List Symbol) (tokens : List TokenKind) (place : ℕ) (o : Option ℕ) (es fs : List Event)
+    → MayTakeAll from to tokens place o es fs → IfSome o (λ next. place ≤ next)
+all_onward from to tokens place None es fs may = tt
+all_onward from to tokens place (Some next) es fs may = may.on
 
 -- one phrase that is known
 pub one_known : {E : Type 0} (result : Result (Option ℕ) E) (from to : List Symbol) (tokens : List TokenKind) (place : ℕ) (es fs : List Event)

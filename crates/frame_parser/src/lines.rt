@@ -8,18 +8,19 @@ ghost use Rattle.std.specs.Prelude.{◌<◌, ◌≤◌, ◌+◌, ◌^◌, length
 ghost use Rattle.known_lines.specs.Lines.{IsLine, TakesLines};
 ghost use Rattle.frame_parser.specs.Notes.{events_of};
 
+use crate::arrays::take_array;
 use crate::note::Note;
 use crate::phrases::note_at;
 use crate::schedules::take_schedule;
 use frame_grammar::{Action as A, HasKind, TokenKind as K};
 use known_lines::are_at;
 use known_lines::statements::{
-    ADD, ADD_NOTES, ADD_PAIR, ADD_PAIR_NOTES, ARRAY, ARRAY_NOTES, CLEAR, CLEAR_NOTES, COMPLETE,
-    COMPLETE_NOTES, COPY, COPY_NOTES, DISPOSE, DISPOSE_NOTES, EMPTY, EMPTY_NOTES, FLUSH,
-    FLUSH_NOTES, FRAME, FRAME_NOTES, LIST, LIST_NOTES, MAP, MAP_NOTES, PRINT, PRINT_NOTES, PUT,
-    PUT_NOTES, REFERENCE, REFERENCE_NOTES, REFERENCE_VALUE, REFERENCE_VALUE_NOTES, REMOVE,
-    REMOVE_NOTES, SET, SET_AT, SET_AT_NOTES, SET_CAPACITY, SET_CAPACITY_NOTES, SET_NOTES, SLICE,
-    SLICE_NOTES, STREAM, STREAM_NOTES, VIEW, VIEW_NOTES,
+    ADD, ADD_NOTES, ADD_PAIR, ADD_PAIR_NOTES, CLEAR, CLEAR_NOTES, COMPLETE, COMPLETE_NOTES, COPY,
+    COPY_NOTES, DISPOSE, DISPOSE_NOTES, EMPTY, EMPTY_NOTES, FLUSH, FLUSH_NOTES, FRAME, FRAME_NOTES,
+    LIST, LIST_NOTES, MAP, MAP_NOTES, PRINT, PRINT_NOTES, PUT, PUT_NOTES, REFERENCE,
+    REFERENCE_NOTES, REFERENCE_VALUE, REFERENCE_VALUE_NOTES, REMOVE, REMOVE_NOTES, SET, SET_AT,
+    SET_AT_NOTES, SET_CAPACITY, SET_CAPACITY_NOTES, SET_NOTES, SLICE, SLICE_NOTES, STREAM,
+    STREAM_NOTES, VIEW, VIEW_NOTES,
 };
 use std::alloc::AllocError;
 
@@ -83,7 +84,7 @@ fn take_line<T: HasKind>(
         (events_of events.old.items) (events_of events.new.items)) }
 {
     match tokens[place].kind() {
-        K::Array => take_if_here(events, tokens, place, &ARRAY, &ARRAY_NOTES),
+        K::Array => take_array(events, tokens, place),
         K::List => take_if_here(events, tokens, place, &LIST, &LIST_NOTES),
         K::Map => take_if_here(events, tokens, place, &MAP, &MAP_NOTES),
         K::Reference => take_either(

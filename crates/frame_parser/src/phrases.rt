@@ -1,8 +1,9 @@
 //! Phrases of a line, which are taken at once.
 
-ghost use Rattle.std.specs.Prelude.{◌≡◌, ◌<◌, ◌≤◌, ◌+◌, ◌^◌, List, ◌++◌, All, length, map, IfOk};
+ghost use Rattle.std.specs.Prelude.{◌≡◌, ◌<◌, ◌≤◌, ◌+◌, ◌^◌, List, ◌++◌, All, length, map, IfOk, IfSome};
+ghost use Rattle.frame_grammar.specs.declared.token_kind.TokenKind.{TokenKind};
 ghost use Rattle.frame_grammar.specs.declared.symbols.Symbol.{Symbol};
-ghost use Rattle.known_lines.specs.Lines.{events_at, Fits, IsPhrase, MayTake};
+ghost use Rattle.known_lines.specs.Lines.{events_at, Fits, IsPhrase, items_on, MayTake, MayTakeAll, TakesLines};
 ghost use Rattle.frame_parser.specs.Notes.{events_of};
 
 use crate::note::Note;
@@ -71,5 +72,28 @@ pub fn take_one_of<T: HasKind>(
     match take_phrase(events, tokens, place, first.0, first.1)? {
         Some(next) => Ok(Some(next)),
         None => take_phrase(events, tokens, place, second.0, second.1),
+    }
+}
+
+/// How many tokens the phrases of a line took from a place on, up to the next. Where a phrase wasn't known, there is no
+/// next, and the notes are cut to as many as they were before the line.
+#[inline(always)]
+pub fn taken_or_back(
+    events: &mut Vec<Note>,
+    noted: usize,
+    place: usize,
+    next: Option<usize>,
+) -> usize
+    requires { IfSome next (λ next. place ≤ next) }
+    ensures { (tokens : List TokenKind) (before : List Note) → noted ≡ length before → place ≤ length tokens →
+        MayTakeAll items_on items_on tokens place next (events_of before) (events_of events.old.items) →
+        TakesLines tokens place (place + result) (events_of before) (events_of events.new.items) }
+{
+    match next {
+        Some(next) => next - place,
+        None => {
+            events.truncate(noted);
+            0
+        }
     }
 }

@@ -10,7 +10,7 @@ ghost use Rattle.known_lines.specs.Schedules.{arguments_on, more_arguments_on, n
 ghost use Rattle.frame_parser.specs.Notes.{events_of};
 
 use crate::note::Note;
-use crate::phrases::{take_one_of, take_phrase};
+use crate::phrases::{take_one_of, take_phrase, taken_or_back};
 use frame_grammar::HasKind;
 use known_lines::schedules::{
     AFTER, AFTER_NOTES, AUTO_HEAD, AUTO_HEAD_NOTES, CLOSE, CLOSE_NOTES, END, END_NOTES, HEAD,
@@ -166,11 +166,6 @@ pub fn take_schedule<T: HasKind>(
         (events_of events.old.items) (events_of events.new.items)) }
 {
     let noted = events.len();
-    match take_known(events, tokens, place)? {
-        Some(next) => Ok(next - place),
-        None => {
-            events.truncate(noted);
-            Ok(0)
-        }
-    }
+    let next = take_known(events, tokens, place)?;
+    Ok(taken_or_back(events, noted, place, next))
 }

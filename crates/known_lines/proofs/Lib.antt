@@ -1,3 +1,4 @@
 pub mod Takings
 pub mod StatementLines
 pub mod SchedulePhrases
+pub mod ArrayPhrases

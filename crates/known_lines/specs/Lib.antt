@@ -1,3 +1,4 @@
 -- promises
 pub mod Lines
 pub mod Schedules
+pub mod Arrays

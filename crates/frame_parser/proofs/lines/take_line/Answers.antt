@@ -1,11 +1,8 @@
-use Rattle.known_lines.proofs.StatementLines.{array_is, list_is, map_is, reference_is, reference_value_is, stream_is, slice_is, view_is, copy_is, set_at_is, set_is, add_is, add_pair_is, put_is, remove_is, clear_is, set_capacity_is, complete_is, dispose_is, print_is, flush_is, frame_is, empty_is}
+use Rattle.known_lines.proofs.StatementLines.{list_is, map_is, reference_is, reference_value_is, stream_is, slice_is, view_is, copy_is, set_at_is, set_is, add_is, add_pair_is, put_is, remove_is, clear_is, set_capacity_is, complete_is, dispose_is, print_is, flush_is, frame_is, empty_is}
 use Rattle.frame_parser.proofs.lines.take_line.Goals as goal
 
 pub take_if_here-requires-clause-line : goal.take_if_here-requires-clause-line
-take_if_here-requires-clause-line g c = array_is
-
-pub take_if_here-requires-in-List-clause-line : goal.take_if_here-requires-in-List-clause-line
-take_if_here-requires-in-List-clause-line g c = list_is
+take_if_here-requires-clause-line g c = list_is
 
 pub take_if_here-requires-in-Map-clause-line : goal.take_if_here-requires-in-Map-clause-line
 take_if_here-requires-in-Map-clause-line g c = map_is
