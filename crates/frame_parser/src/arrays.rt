@@ -1,8 +1,9 @@
 //! Lines of `array`, which are taken at once: whole without values, and phrase by phrase with values.
 //!
-//! An array may have a million values, so a plain one costs one test of its kind and two notes. Where a phrase is another
-//! than those that are known here (`temp`, a file that ends within the line), what was noted of the line is taken back,
-//! and the line is taken token by token; the notes keep their room, so none is moved a second time.
+//! An array may have a million values, so a plain one costs one test of its kind and two notes. Where a phrase is
+//! another than those that are known here (`temp`, a file that ends within the line), what was noted of the line is
+//! taken back, and the line is taken token by token. The notes keep their room then, so as many more of them need no
+//! memory.
 
 ghost use Rattle.std.specs.Prelude.{◌<◌, ◌≤◌, ◌+◌, ◌^◌, length, map, IfOk};
 ghost use Rattle.known_lines.specs.Lines.{MayTakeAll, TakesLines, TakesPhrase, items_on};

@@ -1,7 +1,7 @@
 //! The phrases of a line of `array` with values: their tokens, and what is noted of them.
 //!
-//! What is noted before the token behind a phrase, whatever that token is, belongs to the phrase. A value is the same
-//! phrase as the first one and behind another.
+//! What is noted before the token behind a phrase, whatever that token is, belongs to the phrase. The first value and
+//! one behind another are the same tokens, of which the same is noted.
 
 use frame_grammar::{Action as A, TokenKind as K};
 

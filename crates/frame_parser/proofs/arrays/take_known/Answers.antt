@@ -1,6 +1,6 @@
 use Rattle.std.proofs.Common.{arith, map, subst}
 use Rattle.std.proofs.lemmas.List.{length-map}
-use Rattle.known_lines.specs.Lines.{MayTakeAll, Noted, TakesPhrase, items_on}
+use Rattle.known_lines.specs.Lines.{Noted, TakesPhrase, items_on}
 use Rattle.known_lines.specs.Arrays.{values_on}
 use Rattle.known_lines.proofs.ArrayPhrases.{head_is}
 use Rattle.known_lines.proofs.StatementLines.{array_is}
