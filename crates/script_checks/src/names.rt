@@ -1,9 +1,10 @@
 //! The names of a script, in the order of their first making.
 
-ghost use Rattle.std.specs.Prelude.{◌≡◌, ℕ, All, ◌<◌, ◌-◌, ◌^◌, List, [], length, map, replicate, IfOk, None, Some, unwrap_or, IsUtf8, string_bytes};
+ghost use Rattle.std.specs.Prelude.{◌≡◌, ℕ, All, ◌<◌, ◌-◌, ◌^◌, List, [], length, map, replicate, IfOk, None, Some, unwrap_or, IsUtf8};
 ghost use Rattle.script_checks.specs.Names.{Name, place_in, kind_in, with_name};
 ghost use Rattle.script_checks.specs.Index.{known_of, hash_of, bucket_of, first_of, first_for, IsIndex};
 
+use frame_ast::NameTexts;
 use frame_ast::name_kind::NameKind;
 use job_base::NoMemory;
 use kernel_text::is_same;
@@ -21,12 +22,11 @@ pub struct Entry<'a> {
 }
 
 // A name as text. That its bytes are is proved, so they aren't looked at once more.
-fn text_of(alloc: Global, bytes: &[u8]) -> Result<String, NoMemory>
+fn text_of(bytes: &[u8]) -> &str
     requires { IsUtf8 bytes.now }
-    ensures { IfOk result (λ text. string_bytes text ≡ bytes.now) }
+    ensures { result.now ≡ bytes.now }
 {
-    let text = unsafe { str::from_utf8_unchecked(bytes) };
-    Ok(String::from_str(alloc, text)?)
+    unsafe { str::from_utf8_unchecked(bytes) }
 }
 
 // The hash by which a name is found: half of what std's hasher makes of its bytes.
@@ -146,13 +146,13 @@ impl<'a> Names<'a> {
     }
 
     /// The names as texts.
-    pub fn texts(&self, alloc: Global) -> Result<Vec<String>, NoMemory>
+    pub fn texts(&self, alloc: Global) -> Result<NameTexts, NoMemory>
         requires { All (λ name. IsUtf8 name.text) self.now }
-        ensures { IfOk result (λ texts. map string_bytes texts.items ≡ map (λ n. n.text) self.now) }
+        ensures { IfOk result (λ texts. texts ≡ map (λ n. n.text) self.now) }
     {
-        let mut texts = Vec::new(alloc);
+        let mut texts = NameTexts::new(alloc);
         for entry in &self.entries {
-            texts.push(text_of(alloc, entry.text)?)?;
+            texts.push(text_of(entry.text))?;
         }
         Ok(texts)
     }

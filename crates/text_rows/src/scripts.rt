@@ -134,8 +134,10 @@ fn write_job(text: &mut String, order: &Order) -> Result<(), Fail> {
 /// The names, the lists of values and the statements, each with its line.
 fn shown(alloc: Global, script: &Script) -> Result<String, Fail> {
     let mut text = String::new(alloc);
-    for name in &script.names {
-        write!(text, "{name} ")?;
+    for place in 0..script.names.len() {
+        if let Some(name) = script.names.get(place) {
+            write!(text, "{name} ")?;
+        }
     }
     for values in &script.literals {
         write!(text, "(")?;

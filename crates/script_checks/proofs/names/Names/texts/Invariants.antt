@@ -1,5 +1,5 @@
-use Rattle.std.proofs.Common.{◌≡◌, map, take, string_bytes}
+use Rattle.std.proofs.Common.{◌≡◌, map, take}
 use Rattle.script_checks.proofs.names.Names.texts.Given as goal
 
 abbrev pub invariant-loop-entry : goal.invariant-loop-entry
-invariant-loop-entry l = map string_bytes l.texts.items ≡ map (λ e. e.text.now) (take l.entry-index l.entry-items)
+invariant-loop-entry l = l.texts ≡ map (λ e. e.text.now) (take l.entry-index l.entry-items)
