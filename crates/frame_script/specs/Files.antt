@@ -1,5 +1,5 @@
 -- The first static fault of a file, and the script that it spells.
-use Rattle.std.specs.Prelude.{◌≡◌, ℕ, zero, suc, ◌+◌, Bool, true, false, ◌||◌, ℤ, List, [], ◌∷◌, ◌++◌, length, map, Option, None, Some, string_bytes}
+use Rattle.std.specs.Prelude.{◌≡◌, ℕ, zero, suc, ◌+◌, Bool, true, false, ◌||◌, ℤ, List, [], ◌∷◌, ◌++◌, length, map, Option, None, Some}
 use Rattle.frame_grammar.specs.declared.symbols.Event.{Event}
 use Rattle.job_base.specs.declared.limits.TheConstants.{MOST_STATEMENTS, MOST_TESTS}
 use Rattle.kernel_raw.specs.declared.raw.RawKernel.{RawKernel}
@@ -184,6 +184,6 @@ pub record IsScriptOf (s : Source) (items : RawItems) (script : Script) : Type 0
   pub known : Scope
   pub faultless : IsFaultless s at_start items known
   pub kernels : script.kernels.items ≡ known.kernels
-  pub names : map (λ n. string_bytes n) script.names.items ≡ map (λ n. n.text) known.names
+  pub names : script.names ≡ map (λ n. n.text) known.names
   pub literals : map (λ v. v.items) script.literals.items ≡ literals_in s items
   pub statements : StandFor s known.names known.kernels 0 items script.statements.items

@@ -1,5 +1,5 @@
 -- A walk over the items of a file: what is known behind some of them, and what is left.
-use Rattle.std.specs.Prelude.{◌≡◌, ℕ, ◌+◌, ◌≤◌, ◌⊎◌, Bool, true, ℤ, Vec, List, [], ◌∷◌, ◌++◌, length, map, reverse, drop, Some, None, All, IsUtf8, string_bytes}
+use Rattle.std.specs.Prelude.{◌≡◌, ℕ, ◌+◌, ◌≤◌, ◌⊎◌, Bool, true, ℤ, Vec, List, [], ◌∷◌, ◌++◌, length, map, reverse, drop, Some, None, All, IsUtf8}
 use Rattle.std.specs.declared.alloc.Global.{Global}
 use Rattle.frame_ast.specs.declared.kernel.FaultKind.{FaultKind}
 use Rattle.frame_ast.specs.declared.kernel.Kernel.{Kernel as CheckedKernel}
@@ -194,7 +194,7 @@ pub record RefusesItems (s : Source) (events : List Event) (line : ℕ) (kind : 
 -- the script that was written out, where there was room for it
 pub record Gathers (w : Walk) (script : Script) : Type 0 where
   pub kernels : script.kernels.items ≡ w.kernels
-  pub names : map (λ n. string_bytes n) script.names.items ≡ map (λ n. n.text) w.names
+  pub names : script.names ≡ map (λ n. n.text) w.names
   pub literals : script.literals ≡ w.literals
   pub statements : script.statements.items ≡ w.written.statements
   pub within : w.written.over ≡ None

@@ -28,6 +28,32 @@ pub fn small_copy(order: &Order) -> Option<Order>
     ensures plain { IfSome result (λ copy. is_when copy ≡ false) }
 {
     match order {
+        Order::Set { name, at, value } => Some(Order::Set {
+            name: *name,
+            at: *at,
+            value: *value,
+        }),
+        Order::Add {
+            name,
+            first,
+            second,
+        } => Some(Order::Add {
+            name: *name,
+            first: *first,
+            second: *second,
+        }),
+        Order::Put { name, key, value } => Some(Order::Put {
+            name: *name,
+            key: *key,
+            value: *value,
+        }),
+        Order::Remove { name, at } => Some(Order::Remove {
+            name: *name,
+            at: *at,
+        }),
+        Order::Clear { name } => Some(Order::Clear { name: *name }),
+        Order::Complete { name } => Some(Order::Complete { name: *name }),
+        Order::Print { name } => Some(Order::Print { name: *name }),
         Order::Array {
             name,
             len,
@@ -63,32 +89,6 @@ pub fn small_copy(order: &Order) -> Option<Order>
             name: *name,
             of: *of,
         }),
-        Order::Set { name, at, value } => Some(Order::Set {
-            name: *name,
-            at: *at,
-            value: *value,
-        }),
-        Order::Add {
-            name,
-            first,
-            second,
-        } => Some(Order::Add {
-            name: *name,
-            first: *first,
-            second: *second,
-        }),
-        Order::Put { name, key, value } => Some(Order::Put {
-            name: *name,
-            key: *key,
-            value: *value,
-        }),
-        Order::Remove { name, at } => Some(Order::Remove {
-            name: *name,
-            at: *at,
-        }),
-        Order::Clear { name } => Some(Order::Clear { name: *name }),
-        Order::Complete { name } => Some(Order::Complete { name: *name }),
-        Order::Print { name } => Some(Order::Print { name: *name }),
         Order::Column { .. }
         | Order::Reference { .. }
         | Order::Map { .. }

@@ -182,12 +182,12 @@ impl<'a> Walk<'a> {
         ensures { Gives (first_some (order_faults source.entry (scope_of self.old) at (form_of raw.now)))
             (λ _. Takes source.entry at (form_of raw.now) self.old self.new) result }
     {
-        match raw {
-            RawOrder::Repeat { count } => self.open_repeat(source, at, *count),
-            RawOrder::When { name, sign, value } => {
-                self.open_when(source, at, line, *name, *sign, *value)
-            }
-            _ => self.take_plain(alloc, source, at, line, raw),
+        if let RawOrder::Repeat { count } = raw {
+            self.open_repeat(source, at, *count)
+        } else if let RawOrder::When { name, sign, value } = raw {
+            self.open_when(source, at, line, *name, *sign, *value)
+        } else {
+            self.take_plain(alloc, source, at, line, raw)
         }
     }
 

@@ -133,19 +133,21 @@ fn as_valued_array<'a>(raw: &RawOrder<'a>) -> Option<Valued<'a>>
     ensures { MatchOption result (closing (form_of raw.now) ≡ None → IsTrue (is_plain raw.now))
         (λ text. form_of raw.now ≡ valued_form text) }
 {
-    match raw {
-        RawOrder::Array {
-            name,
-            len,
-            life,
-            values: Some(values),
-        } => Some(Valued {
+    if let RawOrder::Array {
+        name,
+        len,
+        life,
+        values: Some(values),
+    } = raw
+    {
+        Some(Valued {
             name: *name,
             len: *len,
             life: *life,
             values: *values,
-        }),
-        _ => None,
+        })
+    } else {
+        None
     }
 }
 

@@ -35,7 +35,7 @@ accepted s events items script spells is short checked =
     let kernels : length is.known.kernels ≤ 256 = few_kernels s items is.faultless (omega arith) in
     record {
       kinds = kinds_of names;
-      each = length-map names _ ∙ (sym (length-map names _) ∙ (ap length (sym is.names) ∙ length-map script.names.items _));
+      each = length-map names _ ∙ (sym (length-map names _) ∙ ap length (sym is.names));
       fits = subst (λ l. statements_fit (scene names 0) l script.kernels.items 0 xs ≡ true) (sym is.literals)
           (subst (λ ks. statements_fit (scene names 0) (literals_in s items) ks 0 xs ≡ true) (sym is.kernels)
           (subst (λ ys. statements_fit (scene names 0) (literals_in s items) is.known.kernels 0 ys ≡ true) (append-nil xs) fits));

@@ -1,4 +1,3 @@
-use Rattle.std.proofs.Common.{refl}
 use Rattle.frame_parser.specs.Notes.{events_of}
 use Rattle.script_text.specs.Known.{known_form}
 use Rattle.frame_script.proofs.Walking.EventSteps.{went_past_order, refused_in_order}
