@@ -5,11 +5,11 @@
 use denote.Param.Send.{IsSend, IsSync, recorded_send, recorded_sync, struct_send, struct_sync, sendable}
 use denote.Struct.Declared.{shape}
 use Rattle.std.proofs.Crossing.{crosses}
-use Rattle.std.proofs.MapsCrossing.{String-send, String-sync}
 use Rattle.frame_ast.specs.contracts.kernel.Stmt as stmt
 use Rattle.frame_ast.specs.contracts.kernel.Body as body
 use Rattle.frame_ast.specs.contracts.kernel.Kernel as kernel
 use Rattle.frame_ast.proofs.kernel.Param.TheSendSync as param
+use Rattle.frame_ast.proofs.name_texts.NameTexts.TheSendSync as names
 use Rattle.frame_ast.proofs.kernel.Stmt.TheLaws.TheKnot as knot
 use Rattle.frame_ast.proofs.kernel.Expr.TheLaws.TheKnot as knot_expr
 use Rattle.kernel_bytecode.proofs.code.Code.TheSendSync as code
@@ -81,7 +81,7 @@ plan_fields_send = struct_send (shape plan.the_type) (
   (
     search (sendable, crosses, code.the_send) depth 60 fits 20000,
     (
-      search (sendable, crosses, String-send) depth 60 fits 20000,
+      search (sendable, crosses, names.the_send) depth 60 fits 20000,
       (
         search (sendable, crosses) depth 60 fits 20000,
         (
@@ -111,7 +111,7 @@ plan_fields_sync = struct_sync (shape plan.the_type) (
   (
     search (sendable, crosses, code.the_sync) depth 60 fits 20000,
     (
-      search (sendable, crosses, String-sync) depth 60 fits 20000,
+      search (sendable, crosses, names.the_sync) depth 60 fits 20000,
       (
         search (sendable, crosses) depth 60 fits 20000,
         (

@@ -23,7 +23,7 @@ abbrev pub no_plan : Plan
 no_plan = record {
   kernels = no_items;
   codes = no_items;
-  names = no_items;
+  names = [];
   literals = no_items;
   jobs = no_items;
   segments = no_items;

@@ -1,5 +1,5 @@
 -- What the numbers in a plan name.
-use Rattle.std.specs.Prelude.{ℕ, zero, suc, ◌+◌, ◌<◌, Bool, false, ◌||◌, nat_eq, if◌then◌else◌, ℤ, List, [], ◌∷◌, ◌++◌, length, map, get_or, Option, None, Some, slice_get, string_bytes}
+use Rattle.std.specs.Prelude.{ℕ, zero, suc, ◌+◌, ◌<◌, Bool, false, ◌||◌, nat_eq, if◌then◌else◌, ℤ, List, [], ◌∷◌, ◌++◌, length, map, get_or, Option, None, Some, slice_get}
 use Rattle.job_base.specs.declared.JobId.{JobId}
 use Rattle.job_base.specs.declared.Span.{Span}
 use Rattle.batch_cut.specs.Cuts.{count_of, piece_of}
@@ -54,7 +54,7 @@ kernel_of plan x = slice_get plan.kernels.items x.kernel
 
 -- the text of a name, and the elements of a literal
 abbrev pub name_of : Plan → ℕ → List ℕ
-name_of plan n = get_or (map (λ v. string_bytes v) plan.names.items) n []
+name_of plan n = get_or plan.names n []
 
 abbrev pub literal_of : Plan → ℕ → List ℤ
 literal_of plan n = get_or (map (λ v. v.items) plan.literals.items) n []

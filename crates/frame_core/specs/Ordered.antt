@@ -148,7 +148,7 @@ ActFits plan (Print at) = StandsIn plan at × IsContainer at
 ActFits plan (Report made) = Unit {0}
 
 pub record OpFits (plan : Plan) (op : Op) : Type 0 where
-  pub name : op.name < length plan.names.items
+  pub name : op.name < length plan.names
   pub act : ActFits plan op.act
 
 -- of every operation of the plan

@@ -1,6 +1,7 @@
 //! A frame as it is run: the pieces of its jobs, and the segments of the script between them.
 
 use batch_cut::Cut;
+use frame_ast::NameTexts;
 use frame_ast::kernel::Kernel;
 use job_base::{JobId, PieceId, Refusal, Span};
 use kernel_bytecode::Code;
@@ -14,7 +15,7 @@ pub struct Plan {
     pub kernels: Vec<Kernel>,
     /// The code of each kernel, at its place.
     pub codes: Vec<Code>,
-    pub names: Vec<String>,
+    pub names: NameTexts,
     pub literals: Vec<Vec<i64>>,
     /// Job 1 first.
     pub jobs: Vec<JobPlan>,
