@@ -9,7 +9,6 @@ use Rattle.frame_ast.specs.Laws.{IsKnown}
 use Rattle.frame_ast.specs.States.{ScriptState}
 use Rattle.kernel_exec.specs.Layout.{Holds, StandFor}
 use Rattle.merge_laws.specs.Graph.{cells_before}
-use Rattle.merge_laws.specs.Pieces as made
 use Rattle.frame_core.specs.declared.piece.Piece.TheVariants.{OfScript, OfJob}
 use Rattle.frame_core.specs.declared.piece.Piece.{Piece}
 use Rattle.frame_core.specs.declared.plan.JobPlan.{JobPlan}

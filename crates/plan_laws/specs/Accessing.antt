@@ -3,7 +3,7 @@
 -- Decided here is that the operation on words is the statement: it is refused for the same cause, and where it isn't,
 -- the words of the container stand for its changed contents. That something else blocks the statement, as a job that
 -- isn't completed, is a matter of `Refusing`.
-use Rattle.std.specs.Prelude.{ℕ, ◌≡◌, ◌<◌, ◌^◌, true, ℤ, pos, List, [], ◌∷◌, length, map, take, Option, None, Some, unwrap_or, slice_get, string_bytes}
+use Rattle.std.specs.Prelude.{ℕ, ◌≡◌, ◌<◌, ◌^◌, true, ℤ, pos, List, [], ◌∷◌, length, take, Option, None, Some, unwrap_or, slice_get}
 use Rattle.frame_ast.specs.declared.name_kind.NameKind.{NameKind}
 use Rattle.frame_ast.specs.declared.name_kind.NameKind.TheVariants as kind
 use Rattle.frame_ast.specs.declared.name_kind.TheConstants.{REMOVABLE, CLEARABLE}
@@ -44,7 +44,7 @@ pub record IsWritable (x : Outline) (g : Setting) (s : ScriptState) (name : ℕ)
   pub usable : IsUsable s name
   pub kind : kind_in (kind_seen (s.values name) (contents_at s name)) kinds ≡ true
   -- the plan has the name
-  pub below : name < length x.plan.names.items
+  pub below : name < length x.plan.names
   pub named : name_of x.plan name ≡ name_text g name
 
 -- A statement on a name of these kinds, refused or not, is planned by one operation on the words of the name.
@@ -90,7 +90,7 @@ ClearsArePlanned = IsPlannedBy CLEARABLE (λ name. order.Clear name) (λ b. Clea
 
 -- The plan has the script's names.
 abbrev pub AreNamesOf : Setting → Outline → Type 0
-AreNamesOf g x = map (λ v. string_bytes v) x.plan.names.items ≡ g.names
+AreNamesOf g x = x.plan.names ≡ g.names
 
 -- Where names hold values of their kinds, the script may write through a name that nothing blocks, if it is of one of
 -- these kinds.

@@ -1,5 +1,5 @@
 -- An accepted schedule, as the ledger sees it: the pieces of the new job are in order.
-use Rattle.std.specs.Prelude.{ℕ, suc, ◌≡◌, ◌<◌, ◌≤◌, ◌⊎◌, Bool, true, ◌&&◌, ◌||◌, nat_eq, List, ◌++◌, length, Some}
+use Rattle.std.specs.Prelude.{ℕ, suc, ◌≡◌, ◌<◌, ◌≤◌, ◌⊎◌, Bool, true, ◌&&◌, ◌||◌, nat_eq, ◌++◌, length, Some}
 use Rattle.frame_ast.specs.Contents.{words_of}
 use Rattle.frame_ast.specs.Jobs.{Jobs, happens_before, with_job}
 use Rattle.frame_ast.specs.Laws.{IsKnown, AreUpTo}

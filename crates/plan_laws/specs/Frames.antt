@@ -22,7 +22,7 @@ report_ops s line (suc c) = report_ops s line c ++ (if is_overdue s c then repor
 
 -- the plan has the name of each container
 pub record HasNames (plan : Plan) (g : Setting) (s : ScriptState) : Type 0 where
-  pub below : (c : ℕ) → c < s.made → (s.making c).name < length plan.names.items
+  pub below : (c : ℕ) → c < s.made → (s.making c).name < length plan.names
   pub text : (c : ℕ) → c < s.made → name_of plan (s.making c).name ≡ name_text g (s.making c).name
 
 abbrev pub FramesArePlanned : Type 0

@@ -59,6 +59,6 @@ ContainersArePlanned = (x : Outline)
     → x.starts s.takes + words_of contents ≤ x.plan.cells
     → IsLiteral x.plan (next_span x s contents) literal
     → FillsAs x.plan (next_span x s contents) literal contents
-    → shown < length x.plan.names.items
+    → shown < length x.plan.names
     → Adds d e (record { line = line; name = shown; act = Fill (next_span x s contents) literal } ∷ [])
     → IsPlanned x (make line name life contents s) e

@@ -33,6 +33,6 @@ MovesArePlanned = (x : Outline) (g : Setting) (s : ScriptState) (line name cap o
     → contents_at s name ≡ Items old xs
     → IsFirstFit (is_live_word x.starts s) (cap + 1) (x.starts s.takes)
     → x.starts s.takes + (cap + 1) ≤ x.plan.cells
-    → name < length x.plan.names.items
+    → name < length x.plan.names
     → Adds d e (move_op x.starts s line name old cap ∷ [])
     → IsPlanned x (effect g line s (SetCapacity name cap)) e

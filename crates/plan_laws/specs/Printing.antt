@@ -49,7 +49,7 @@ PrintsArePlanned = (x : Outline) (g : Setting) (s : ScriptState) (line name : �
     → IsPlanned x s d
     → refusal g s (PrintOf name) ≡ None
     → IsUsable s name
-    → name < length x.plan.names.items
+    → name < length x.plan.names
     → name_of x.plan name ≡ name_text g name
     → Adds d e (print_op x.starts s line name ∷ [])
     → IsPlanned x (effect g line s (PrintOf name)) e

@@ -18,7 +18,7 @@ RefusalsArePlanned = (x : Outline)
     → IsPlanned x s d
     → s.passing ≡ 0
     → refusal g s st.act ≡ Some r
-    → name < length x.plan.names.items
+    → name < length x.plan.names
     → name_of x.plan name ≡ name_text g r.name
     → Adds d e (record { line = st.line; name = name; act = Say r.cause } ∷ [])
     → IsPlanned x (act g s st) e

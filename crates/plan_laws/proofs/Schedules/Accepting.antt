@@ -1,5 +1,5 @@
 -- An accepted schedule whose job's planned kernel stands in for its own: the plan goes on with it.
-use Rattle.std.proofs.Common.{◌≡◌, ℕ, zero, suc, ◌+◌, ◌<◌, ◌≤◌, ◌^◌, Bool, true, false, ◌&&◌, ◌||◌, List, [], ◌∷◌, ◌++◌, length, map, get_or, Option, Some, None, refl, sym, ap, subst, ◌∙◌, arith}
+use Rattle.std.proofs.Common.{◌≡◌, ℕ, zero, suc, ◌+◌, ◌<◌, ◌≤◌, Bool, true, false, ◌&&◌, ◌||◌, List, [], ◌∷◌, ◌++◌, length, map, get_or, Option, Some, refl, sym, ap, subst, ◌∙◌, arith}
 use Rattle.std.specs.Prelude.{slice_get, nat_eq, if◌then◌else◌}
 use Rattle.std.proofs.lemmas.List.{get_or-map}
 use Rattle.frame_ast.specs.declared.kernel.Kernel.{Kernel}
@@ -12,7 +12,7 @@ use Rattle.frame_ast.specs.Forms.{form_of}
 use Rattle.frame_ast.specs.JobRuns.{Ran, Run, no_run, run_of}
 use Rattle.frame_ast.specs.Jobs.{Jobs, only, both, with_job}
 use Rattle.frame_ast.specs.Laws.{IsKnown}
-use Rattle.frame_ast.specs.Orders.{Setting, kernel_params, kernel_parallel, job_length}
+use Rattle.frame_ast.specs.Orders.{kernel_params, kernel_parallel, job_length}
 use Rattle.frame_ast.specs.Refusals.{jobs_named}
 use Rattle.frame_ast.specs.Schedules.{Given, is_list, givens, arguments_of, leave_all, widths_from}
 use Rattle.frame_ast.specs.States.{Value, ScriptState, with_at}
@@ -20,7 +20,7 @@ use Rattle.frame_ast.proofs.Forms.{words_by_form}
 use Rattle.frame_core.specs.declared.plan.JobPlan.{JobPlan}
 use Rattle.frame_core.specs.Names as names
 use Rattle.frame_core.proofs.Small.{some_is, none_some, get_below}
-use Rattle.plan_laws.specs.Accepting.{Schedule, accepted, deps_of, IsAcceptedSchedule, PlannedKernel, IsPlannedJob, SchedulesArePlanned}
+use Rattle.plan_laws.specs.Accepting.{Schedule, accepted, PlannedKernel, IsPlannedJob, SchedulesArePlanned}
 use Rattle.plan_laws.specs.Drafts.{Draft}
 use Rattle.plan_laws.specs.Enrolling.{IsEnrolled}
 use Rattle.plan_laws.specs.Leaving.{AllHeld}

@@ -1,5 +1,5 @@
 -- Without `defer` the kernel of an accepted schedule stands in for itself.
-use Rattle.std.proofs.Common.{◌≡◌, ℕ, ◌<◌, ◌^◌, List, Option, Some, None, refl, sym, ap, subst, ◌∙◌}
+use Rattle.std.proofs.Common.{◌≡◌, ℕ, List, Some, None, refl, sym, ap, subst, ◌∙◌}
 use Rattle.std.specs.Prelude.{slice_get}
 use Rattle.frame_ast.specs.declared.kernel.Kernel.{Kernel}
 use Rattle.frame_ast.specs.declared.kernel.Param.{Param}
@@ -7,7 +7,6 @@ use Rattle.frame_ast.specs.Conflicts.{uses_it, writes_it}
 use Rattle.frame_ast.specs.Jobs.{Jobs}
 use Rattle.frame_ast.specs.Schedules.{arguments_of, widths_from}
 use Rattle.frame_ast.specs.States.{ScriptState, container_at}
-use Rattle.kernel_exec.specs.declared.binds.Bind.{Bind}
 use Rattle.kernel_exec.specs.Binds.{widths}
 use Rattle.kernel_exec.specs.Conditions.{BindsFit}
 use Rattle.kernel_exec.specs.Laws.{HaveOwnParts}

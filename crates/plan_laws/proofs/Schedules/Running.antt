@@ -8,7 +8,6 @@ use Rattle.std.proofs.lemmas.List.{map-append}
 use Rattle.batch_cut.specs.Cuts.{count_of, piece_of}
 use Rattle.job_base.specs.declared.Span.{Span}
 use Rattle.job_base.specs.declared.Trap.{Trap}
-use Rattle.job_base.specs.Cells.{with_cell}
 use Rattle.job_base.proofs.Windows.{with_cell-other}
 use Rattle.frame_ast.specs.declared.kernel.Kernel.{Kernel}
 use Rattle.frame_ast.specs.Checked.{IsChecked, is_read}

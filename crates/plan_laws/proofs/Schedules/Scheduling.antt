@@ -6,12 +6,10 @@ use Rattle.std.proofs.lemmas.Bool.{cases_eq}
 use Rattle.std.proofs.lemmas.List.{append_assoc, map-append}
 use Rattle.job_base.specs.declared.Trap.{Trap}
 use Rattle.frame_ast.specs.declared.kernel.Kernel.{Kernel}
-use Rattle.frame_ast.specs.Checked.{IsChecked}
-use Rattle.frame_ast.specs.Contents.{Contents}
 use Rattle.frame_ast.specs.Jobs.{Jobs, Book}
 use Rattle.frame_ast.specs.Laws.{IsKnown}
 use Rattle.frame_ast.specs.States.{ScriptState}
-use Rattle.kernel_exec.specs.Layout.{Holds, StandFor}
+use Rattle.kernel_exec.specs.Layout.{Holds}
 use Rattle.merge_laws.specs.Graph.{Cells}
 use Rattle.merge_laws.specs.Pieces.{AreFramed}
 use Rattle.merge_laws.specs.Ledger.{Ledger, IsLedger, AreInOrder}
@@ -26,10 +24,8 @@ use Rattle.frame_core.proofs.Small.{some_is, none_some, get_either}
 use Rattle.frame_core.specs.Graphs.{cells_at_first}
 use Rattle.plan_laws.specs.Binds.{bind_of_container}
 use Rattle.plan_laws.specs.Drafts.{Draft, Output, parts, parts_traps, segment_piece, started_parts, started_traps, with_ops, with_traps, no_output, closed_pieces, pieces_of, output_closed, output_of, cells_past}
-use Rattle.plan_laws.specs.Enrolling.{IsEnrolled}
-use Rattle.plan_laws.specs.Leaving.{AllHeld}
 use Rattle.plan_laws.specs.Ledgers.{ledger_of}
-use Rattle.plan_laws.specs.Planned.{Outline, jobs_before, HasPieceOf, AreJobsUpTo, SegmentFits, PartsStand, StartedStand, renumbered, IsPlanned, Closes}
+use Rattle.plan_laws.specs.Planned.{Outline, jobs_before, HasPieceOf, AreJobsUpTo, SegmentFits, PartsStand, StartedStand, renumbered, IsPlanned}
 use Rattle.plan_laws.specs.Scheduling.{script_trap, IsStarted, StartedJobsArePlanned}
 use Rattle.plan_laws.proofs.Apart.{parts_are_apart}
 use Rattle.plan_laws.proofs.Closing.{pieces_onto-one, output_onto-one, closed_stand-one, starts_from-one, segments_fit-one, jobs_started}

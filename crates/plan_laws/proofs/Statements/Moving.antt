@@ -286,7 +286,7 @@ module _ (x : Outline) (small : x.plan.cells < 2 ^ 32) (g : Setting) (s : Script
           clash : (w : ℕ) → w ≡ Rattle.std.specs.Prelude.max from.start to.start → from.start < to.start + to.len → to.start < from.start + from.len → ⊥
           clash w e lt lt2 = unheld c w live_c (old_words w ∙ has_it (span_touch from) w (omega arith) (omega arith)) (omega arith) (omega arith)
 
-      planned : (e : Draft) → Adds d e (op ∷ []) → name < length x.plan.names.items → IsPlanned x t e
+      planned : (e : Draft) → Adds d e (op ∷ []) → name < length x.plan.names → IsPlanned x t e
       unfolding op_line op_answer op_cells
       planned e add shown =
           let old_in = was.standing.within c live_c in

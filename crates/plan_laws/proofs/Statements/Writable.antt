@@ -1,7 +1,6 @@
 -- A name of the right kind that nothing blocks may be written through.
-use Rattle.std.proofs.Common.{◌≡◌, ℕ, true, List, [], length, take, Some, refl, sym, ap, subst, ◌∙◌, arith}
-use Rattle.std.specs.Prelude.{get_or, slice_get, string_bytes}
-use Rattle.std.proofs.lemmas.List.{length-map}
+use Rattle.std.proofs.Common.{◌≡◌, ℕ, true, List, [], length, take, Some, refl, ap, subst, arith}
+use Rattle.std.specs.Prelude.{get_or, slice_get}
 use Rattle.frame_ast.specs.declared.kernel.Kernel.{Kernel}
 use Rattle.frame_ast.specs.declared.name_kind.NameKind.{NameKind}
 use Rattle.frame_ast.specs.declared.script.Order.{Order}
@@ -29,7 +28,7 @@ pub names_are_writable : NamesAreWritable
 names_are_writable x g s name k all kinds names each holds is among unblocked =
     let alive = (allowed s name true unblocked).alive in
     let lt = get_below all name k is in
-    let same : length x.plan.names.items ≡ length g.names = sym (length-map x.plan.names.items (λ v. string_bytes v)) ∙ ap length names in
+    let same : length x.plan.names ≡ length g.names = ap length names in
     record {
       unblocked = unblocked;
       usable = names_are_usable all s name k holds is alive;
@@ -55,5 +54,5 @@ accepted_names_are_writable script is table n st at name kinds by x names unbloc
     let ns : Names = record { kinds = is.kinds; made = there.made } in
     let used = is_used ns name kinds (used_by ns g.literals g.kernels there.rest there.inside name kinds st.act by there.fits) in
     names_are_writable x g (final g (take n script.statements.items)) name used.kind is.kinds kinds names
-    (is.each ∙ sym (length-map script.names.items (λ v. string_bytes v)))
+    is.each
     (names_keep_their_kinds script is table n) used.at used.fits unblocked
