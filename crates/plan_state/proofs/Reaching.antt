@@ -1,6 +1,6 @@
 -- What an accepted script gives at a statement, and the state after it.
-use Rattle.std.proofs.Common.{◌≡◌, ℕ, zero, suc, ◌<◌, true, List, [], ◌∷◌, ◌++◌, length, map, take, Option, Some, None, refl, sym, ap, subst, ◌∙◌, arith, append-nil}
-use Rattle.std.specs.Prelude.{slice_get, string_bytes, vec_len, nat_lt, nat_le}
+use Rattle.std.proofs.Common.{◌≡◌, ℕ, zero, suc, ◌<◌, true, List, [], ◌∷◌, ◌++◌, length, map, take, Option, Some, None, refl, sym, ap, subst, arith, append-nil}
+use Rattle.std.specs.Prelude.{slice_get, vec_len, nat_lt, nat_le}
 use Rattle.std.proofs.lemmas.Bool.{and_parts, leb-true}
 use Rattle.job_base.specs.declared.limits.TheConstants.{MOST_STATEMENTS}
 use Rattle.frame_ast.specs.declared.script.Script.{Script}
@@ -60,7 +60,7 @@ module _ {script : Script} {table : Table} {n : ℕ} {x : Statement} (step : IsS
   -- ---- names
 
   pub kinds_long : length step.accepted.kinds ≡ length (setting script table).names
-  kinds_long = step.accepted.each ∙ sym (long (λ v. string_bytes v) script.names.items)
+  kinds_long = step.accepted.each
 
   kind_below : (o : Option NameKind) (name : ℕ) (kinds : List NameKind) → slice_get step.accepted.kinds name ≡ o → kind_in o kinds ≡ true
       → name < length (setting script table).names

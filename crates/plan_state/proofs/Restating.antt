@@ -4,8 +4,8 @@
 -- What may change is named by `IsRestated`: what names stand for, one operation more, how many statements are passed by,
 -- contents that keep their form, view numbers, and what is told. A refused statement is one such (`said` and the lemmas
 -- after it).
-use Rattle.std.proofs.Common.{◌≡◌, ◌≢◌, ℕ, zero, suc, ◌+◌, ◌*◌, ◌<◌, ◌≤◌, ◌⊎◌, inl, inr, Bool, true, false, cond, ◌&&◌, List, [], ◌∷◌, ◌++◌, length, map, Some, None, refl, sym, ap, subst, ◌∙◌, arith}
-use Rattle.std.specs.Prelude.{Vec, vec_len, nat_eq, slice_get, slice_set, get_or, string_bytes}
+use Rattle.std.proofs.Common.{◌≡◌, ◌≢◌, ℕ, zero, suc, ◌+◌, ◌*◌, ◌<◌, ◌≤◌, ◌⊎◌, inl, inr, Bool, true, false, cond, ◌&&◌, List, [], ◌∷◌, ◌++◌, length, Some, None, refl, sym, ap, subst, ◌∙◌, arith}
+use Rattle.std.specs.Prelude.{Vec, vec_len, nat_eq, slice_get, slice_set, get_or}
 use Rattle.std.specs.declared.alloc.Global.{Global}
 use Rattle.std.proofs.lemmas.Bool.{eqb-true, eq-eqb}
 use Rattle.std.proofs.lemmas.List.{length-append}
@@ -50,7 +50,7 @@ use Rattle.plan_state.specs.Stands.{tag_of, IsThere, AreNames, IsContainer, IsOw
 use Rattle.plan_state.specs.Steps.{state_at, IsBefore, HasStepped}
 use Rattle.plan_state.proofs.Naming.{set_long, IsNamed, same_names, renamed_names, handle_names, handles_more}
 use Rattle.plan_state.proofs.Quiet.{IsPlain, IsQuiet, given_one, plain_steps, refused_steps}
-use Rattle.plan_state.proofs.Reaching.{long, known_after}
+use Rattle.plan_state.proofs.Reaching.{known_after}
 
 -- ---- the words of a container rest on its form
 
@@ -315,12 +315,12 @@ calm {p} {q} {g} {begun} {n} {s} {t} {found} st planner state safety view conten
 }
 
 -- the names of the whole plan are those of the script
-pub name_is : (g : Setting) (x : Outline) (n : ℕ) → map (λ v. string_bytes v) x.plan.names.items ≡ g.names → name_of x.plan n ≡ name_text g n
+pub name_is : (g : Setting) (x : Outline) (n : ℕ) → x.plan.names ≡ g.names → name_of x.plan n ≡ name_text g n
 name_is g x n e = ap (λ ns. get_or ns n []) e
 
-pub name_short : (g : Setting) (x : Outline) (n : ℕ) → map (λ v. string_bytes v) x.plan.names.items ≡ g.names → n < length g.names
-    → n < length x.plan.names.items
-name_short g x n e lt = let l = ap length e in let f = long (λ v. string_bytes v) x.plan.names.items in omega arith
+pub name_short : (g : Setting) (x : Outline) (n : ℕ) → x.plan.names ≡ g.names → n < length g.names
+    → n < length x.plan.names
+name_short g x n e lt = let l = ap length e in omega arith
 
 -- the draft does one operation more
 pub adds_op : (p q : Planner) (op : Op)

@@ -3,7 +3,7 @@
 -- Decided here is one relation, `Stands`, with a field for each table that a planner keeps. What the plan so far does
 -- is said by `IsPlanned` of plan_laws, for every whole plan that goes on from here. How statements keep it is said in
 -- `Steps`.
-use Rattle.std.specs.Prelude.{ℕ, suc, ◌+◌, ◌≡◌, ◌<◌, ◌≤◌, ◌^◌, true, false, ◌&&◌, nat_eq, List, ◌++◌, length, map, get_or, Option, None, Some, slice_get, string_bytes, ℤ, Vec}
+use Rattle.std.specs.Prelude.{ℕ, suc, ◌+◌, ◌≡◌, ◌<◌, ◌≤◌, ◌^◌, true, false, ◌&&◌, nat_eq, List, ◌++◌, length, get_or, Option, None, Some, slice_get, ℤ, Vec}
 use Rattle.std.specs.declared.alloc.Global.{Global}
 use Rattle.job_base.specs.declared.limits.TheConstants.{MOST_CREATED_WORDS}
 use Rattle.frame_ast.specs.declared.kernel.Kernel.{Kernel}
@@ -213,7 +213,7 @@ draft_of p = record {
 -- same cells.
 pub record Agrees (p : Planner) (g : Setting) (begun : ScriptState) (found : List ℕ) (x : Outline) : Type 0 where
   pub begins : x.begun ≡ begun
-  pub names : map (λ v. string_bytes v) x.plan.names.items ≡ g.names
+  pub names : x.plan.names ≡ g.names
   pub kernels : (later : List Kernel) × (x.plan.kernels.items ≡ p.draft.kernels.items ++ later)
   pub literals : (later : List (Vec ℤ Global)) × (x.plan.literals.items ≡ p.draft.literals.items ++ later)
   pub jobs : (later : List JobPlan) × (x.plan.jobs.items ≡ p.draft.jobs.items ++ later)
