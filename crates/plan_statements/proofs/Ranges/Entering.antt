@@ -1,6 +1,6 @@
 -- A planner in which a container was made stands for the state in which it is made.
 use Rattle.std.proofs.Common.{◌≡◌, ◌≢◌, ℕ, zero, suc, ◌+◌, ◌<◌, ◌≤◌, ◌⊎◌, inl, inr, ⊎_elim, Bool, true, false, cond, eq-eqb, ne_eqb, ◌&&◌, ◌||◌, ℤ, List, [], ◌∷◌, ◌++◌, length, Option, Some, None, refl, sym, ap, subst, ◌∙◌, arith, append_assoc, length-append}
-use Rattle.std.specs.Prelude.{nat_eq, nat_lt, slice_get, slice_set, get_or, string_bytes, Vec}
+use Rattle.std.specs.Prelude.{nat_eq, nat_lt, slice_get, slice_set, get_or, Vec}
 use Rattle.std.specs.declared.alloc.Global.{Global}
 use Rattle.std.proofs.lemmas.Bool.{cases_eq, cases_lt}
 use Rattle.job_base.specs.declared.limits.TheConstants.{MOST_CREATED_WORDS}
@@ -42,7 +42,6 @@ use Rattle.plan_state.specs.declared.state.Planner.{Planner}
 use Rattle.plan_statements.specs.Making.{TakesWords, and_if}
 use Rattle.plan_state.specs.Stands.{value_for, IsThere, AreNames, tag_of, IsContainer, IsOwned, AreContainers, AreTemps, AreTempJobs, AreFrames, IsCopy, IsGuardedCopy, AreKernels, AreNumbers, Agrees, Stands, draft_of}
 use Rattle.plan_state.proofs.Naming.{set_either, set_long}
-use Rattle.plan_state.proofs.Reaching.{long}
 use Rattle.plan_statements.proofs.Ranges.Storing.{live_words_are_alike}
 
 -- LISTS
@@ -619,7 +618,7 @@ module _ (p : Planner) (g : Setting) (begun : ScriptState) (n : ℕ) (s : Script
         let span : t.span ≡ next_span x s contents = (let st = sym start in let ln = w.len_is in λ i. record { start = st i; len = ln i }) in
         let f = fills x a in
         let alike : is_live_word p.world.store ≡ ranges.is_live_word x.starts s = (λ i w. live_words_are_alike p g begun n s found x.starts st b.starts w i) in
-        let shown : name < length x.plan.names.items = (let e = ap length b.names in let l = long (λ v. string_bytes v) x.plan.names.items in omega arith) in
+        let shown : name < length x.plan.names = (let e = ap length b.names in omega arith) in
         containers_are_planned x b.small s line name life contents literal name (draft_of p) (draft_of q) (st.planned x b)
         (subst (λ live. IsFirstFit live (words_of contents) (x.starts s.takes)) alike
         (subst (IsFirstFit (is_live_word p.world.store) (words_of contents)) (sym start) w.fit))

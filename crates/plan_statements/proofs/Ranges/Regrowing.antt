@@ -1,6 +1,6 @@
 -- A planner in which a list got another range stands for the state in which it has another capacity.
 use Rattle.std.proofs.Common.{◌≡◌, ◌≢◌, ℕ, zero, suc, ◌+◌, ◌<◌, ◌≤◌, ◌⊎◌, inl, inr, ⊎_elim, true, false, cond, eq-eqb, ne_eqb, ◌&&◌, ℤ, List, [], ◌∷◌, ◌++◌, length, Some, None, Ok, Err, refl, sym, ap, subst, ◌∙◌, arith}
-use Rattle.std.specs.Prelude.{nat_eq, nat_lt, if◌then◌else◌, slice_get, slice_set, get_or, string_bytes, Vec}
+use Rattle.std.specs.Prelude.{nat_eq, nat_lt, if◌then◌else◌, slice_get, slice_set, get_or, Vec}
 use Rattle.std.specs.declared.alloc.Global.{Global}
 use Rattle.std.proofs.lemmas.Bool.{cases_eq, and_parts}
 use Rattle.job_base.specs.declared.Span.{Span}
@@ -39,7 +39,6 @@ use Rattle.plan_statements.specs.Capacity.{HasRegrown, HasBroken}
 use Rattle.plan_state.specs.Stands.{IsThere, AreNames, tag_of, IsContainer, IsOwned, AreContainers, IsCopy, IsGuardedCopy, AreKernels, AreNumbers, Agrees, Stands, draft_of}
 use Rattle.plan_statements.proofs.Ranges.Entering.{get_new, get_old, one_more}
 use Rattle.plan_state.proofs.Naming.{set_either, set_long, get_set, get_other}
-use Rattle.plan_state.proofs.Reaching.{long}
 use Rattle.plan_statements.proofs.Ranges.Storing.{live_words_are_alike}
 
 -- THE STATE AFTERWARDS
@@ -445,7 +444,7 @@ module _ (p : Planner) (g : Setting) (begun : ScriptState) (n : ℕ) (s : Script
       let was : x.starts (s.range (container_at s name)) ≡ get_or found (s.range c) 0 = ap (λ d. x.starts (s.range d)) c_is
       ∙ b.starts (s.range c) (let r = k.range in let l = st.knows.takes in omega arith) in
       let alike : is_live_word p.world.store ≡ ranges.is_live_word x.starts s = (λ i v. live_words_are_alike p g begun n s found x.starts st b.starts v i) in
-      let shown : name < length x.plan.names.items = (let e = ap length b.names in let l = long (λ v. string_bytes v) x.plan.names.items in omega arith) in
+      let shown : name < length x.plan.names = (let e = ap length b.names in omega arith) in
       let from : span_at made.at.start (made.at.cap + 1) ≡ span_at (x.starts (s.range (container_at s name))) (old + 1) =
       (let e = list_at in let f = sym was in λ i. span_at ((ap (λ (z : ListAt). z.start) e ∙ f) i) ((ap (λ (z : ListAt). z.cap) e) i + 1)) in
       let to : span ≡ span_at (x.starts s.takes) (cap + 1) = (let e = sym start in let l = rg.len_is in λ i. span_at (e i) (l i)) in
