@@ -20,7 +20,7 @@ use Rattle.schedule_text.specs.declared.boxes.Size.{Size}
 -- NAMES
 
 abbrev pub name_text : Script → ℕ → List ℕ
-name_text script n = get_or (map (λ v. string_bytes v) script.names.items) n []
+name_text script n = get_or script.names n []
 
 abbrev pub kernel_name : Script → ℕ → List ℕ
 kernel_name script n = get_or (map (λ k. string_bytes k.name) script.kernels.items) n []

@@ -9,10 +9,7 @@ use std::alloc::{AllocError, Global};
 pub fn name_of(script: &Script, name: u32) -> &str
     ensures { result.now ≡ name_text script.now name }
 {
-    match script.names.get(name as usize) {
-        Some(name) => name.as_str(),
-        None => "",
-    }
+    script.names.get(name as usize).unwrap_or("")
 }
 
 /// An argument, as the script has it.

@@ -1,4 +1,4 @@
-use Rattle.std.proofs.Common.{map, string_bytes, ◌∙◌}
+use Rattle.std.proofs.Common.{◌∙◌}
 use Rattle.schedule_text.proofs.Lines.{a_line, no_line, pushed}
 use Rattle.schedule_text.proofs.boxes.push_line.Goals as goal
 
