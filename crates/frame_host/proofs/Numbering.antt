@@ -1,7 +1,6 @@
 -- What is read of a name is what its container holds.
-use Rattle.std.proofs.Common.{◌≡◌, refl, sym, ap, ◌∙◌, subst, ℕ, zero, suc, ◌+◌, ◌<◌, ◌≤◌, Bool, true, false, ℤ, List, [], ◌∷◌, length, map, take, drop, Option, None, Some, arith}
-use Rattle.std.specs.Prelude.{if◌then◌else◌, option_and_then, string_bytes}
-use Rattle.std.proofs.lemmas.List.{length-map}
+use Rattle.std.proofs.Common.{◌≡◌, refl, sym, ap, ◌∙◌, subst, ℕ, zero, suc, ◌+◌, ◌<◌, ◌≤◌, Bool, true, false, ℤ, List, [], ◌∷◌, length, take, drop, Option, None, Some, arith}
+use Rattle.std.specs.Prelude.{if◌then◌else◌, option_and_then}
 use Rattle.std.specs.Str.{bytes_eq}
 use Rattle.job_base.specs.Cells.{cells_of, cell_list}
 use Rattle.frame_plan.proofs.FirstCells.{taken_cells}
@@ -60,8 +59,7 @@ module _ (a : FrameAnswer) (sound : IsAnswer a) (bytes : List ℕ) where
   pub is_bound : (k : ℕ) → place_named (answered_tree a) bytes ≡ Some k → (o : Option Bind) → bind_in a.book k ≡ o
       → IsBindAt s (cells_of a.cells.items) (length a.cells.items) k o
   is_bound k e o is = subst (IsBindAt s (cells_of a.cells.items) (length a.cells.items) k) is
-      (sound.reads k (let low = place_low 0 bytes (map (λ v. string_bytes v) (answered_tree a).names.items) k e in
-      let all = length-map (answered_tree a).names.items (λ v. string_bytes v) in omega arith))
+      (sound.reads k (place_low 0 bytes (answered_tree a).names k e))
 
   pub no_bind : (k : ℕ) → place_named (answered_tree a) bytes ≡ Some k → bind_in a.book k ≡ None
       → numbers_named (answered_tree a) (answered_table a) bytes ≡ None

@@ -5,9 +5,9 @@
 use denote.Param.Send.{IsSend, IsSync, recorded_send, recorded_sync, struct_send, struct_sync, sendable}
 use denote.Struct.Declared.{shape}
 use Rattle.std.proofs.Crossing.{crosses}
-use Rattle.std.proofs.MapsCrossing.{String-send, String-sync}
 use Rattle.job_base.proofs.mem.FlatMem.TheSendSync as mem
 use Rattle.frame_ast.specs.contracts.script.Script as script
+use Rattle.frame_ast.proofs.name_texts.NameTexts.TheSendSync as names
 use Rattle.frame_ast.proofs.script.Statement.TheSendSync as statement
 use Rattle.kernel_bytecode.proofs.code.Code.TheSendSync as code
 use Rattle.table_in.proofs.columns.Table.TheSendSync as table
@@ -41,7 +41,7 @@ tree_fields_send : IsSend script.the_field.row
 tree_fields_send = struct_send (shape script.the_type) (
   search (sendable, crosses, kernel_send) depth 60 fits 20000,
   (
-    search (sendable, crosses, String-send) depth 60 fits 20000,
+    search (sendable, crosses, names.the_send) depth 60 fits 20000,
     (
       search (sendable, crosses) depth 60 fits 20000,
       (
@@ -59,7 +59,7 @@ tree_fields_sync : IsSync script.the_field.row
 tree_fields_sync = struct_sync (shape script.the_type) (
   search (sendable, crosses, kernel_sync) depth 60 fits 20000,
   (
-    search (sendable, crosses, String-sync) depth 60 fits 20000,
+    search (sendable, crosses, names.the_sync) depth 60 fits 20000,
     (
       search (sendable, crosses) depth 60 fits 20000,
       (
@@ -137,7 +137,7 @@ book_fields_send = struct_send (shape book.the_type) (
     (
       search sendable depth 60 fits 20000,
       (
-        search (sendable, crosses, String-send) depth 60 fits 20000,
+        search (sendable, crosses, names.the_send) depth 60 fits 20000,
         (
           search (sendable, crosses) depth 60 fits 20000,
           tt,

@@ -167,7 +167,7 @@ pub record IsRun (frame : Frame) (stage : Stage) (place : Place WordSeat) (left 
 -- The book knows where the contents of each name lie among these cells that stands for a container in this state.
 abbrev pub AreReadable : Script → ScriptState → SectionBook → List ℤ → Type 0
 AreReadable script s book cells = (name : ℕ)
-    → name < length script.names.items
+    → name < length script.names
     → IsBindAt s (cells_of cells) (length cells) name (bind_in book name)
 
 -- The last section was run, and left these cells.

@@ -1,5 +1,5 @@
 -- What is read of a container at the script's end.
-use Rattle.std.specs.Prelude.{ℕ, suc, if◌then◌else◌, ℤ, List, [], ◌∷◌, length, map, Option, None, Some, option_and_then, string_bytes}
+use Rattle.std.specs.Prelude.{ℕ, suc, if◌then◌else◌, ℤ, List, [], ◌∷◌, length, Option, None, Some, option_and_then}
 use Rattle.std.specs.Str.{bytes_eq}
 use Rattle.frame_ast.specs.declared.script.Script.{Script}
 use Rattle.frame_ast.specs.Contents.{Contents, Cells, Single, Items, Pairs, Entries}
@@ -26,7 +26,7 @@ place_from n bytes [] = None
 place_from n bytes (x ∷ more) = if bytes_eq x bytes then Some n else place_from (suc n) bytes more
 
 abbrev pub place_named : Script → List ℕ → Option ℕ
-place_named script bytes = place_from 0 bytes (map (λ v. string_bytes v) script.names.items)
+place_named script bytes = place_from 0 bytes script.names
 
 -- The numbers of the container that a name stands for in the script's final state.
 abbrev pub numbers_named : Script → Table → List ℕ → Option (List ℤ)

@@ -1,5 +1,5 @@
 // What the containers of a script hold at its end, as numbers.
-ghost use Rattle.std.specs.Prelude.{◌≡◌, ◌+◌, ◌≤◌, ℕ, length, map, option_copied, string_bytes};
+ghost use Rattle.std.specs.Prelude.{◌≡◌, ◌+◌, ◌≤◌, ℕ, length, option_copied};
 ghost use Rattle.job_base.specs.Cells.{cell_list, cells_of};
 ghost use Rattle.frame_ast.specs.Contents.{Contents};
 ghost use Rattle.kernel_exec.specs.Binds.{end_of};
@@ -29,10 +29,13 @@ impl FrameAnswer {
 
 // The place of the first name of a script that has these bytes.
 fn place_of(script: &Script, name: &[u8]) -> Option<usize>
-    ensures { result ≡ place_from 0 name.now (map (λ v. string_bytes v) script.now.names.items) }
+    ensures { result ≡ place_from 0 name.now script.now.names }
 {
     for i in 0..script.names.len() {
-        if script.names[i].as_bytes() == name {
+        let Some(text) = script.names.get(i) else {
+            unreachable!()
+        };
+        if text.as_bytes() == name {
             return Some(i);
         }
     }

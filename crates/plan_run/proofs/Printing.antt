@@ -1,5 +1,6 @@
 -- What an operation prints.
-use Rattle.std.proofs.Common.{◌≡◌, ℕ, zero, suc, ◌<◌, List, [], ◌∷◌, length, map, get_or, Option, Some, None, refl, sym, ap, subst, ◌∙◌, arith}
+use Rattle.std.proofs.Common.{◌≡◌, ℕ, List, [], get_or, Option, Some, None, option_map, slice_get, refl, sym, ap, subst, ◌∙◌}
+use Rattle.std.proofs.lemmas.Option.{get_or_from_slice_get}
 use Rattle.job_base.specs.declared.Refusal.{Refusal}
 use Rattle.frame_ast.specs.Contents.{Contents, elements}
 use Rattle.frame_ast.specs.Texts.{print_line}
@@ -28,11 +29,10 @@ printed P line name act at cells answer none is may f =
     ∙ (ap (λ x. answer_line line name x cells None) is ∙ ap (contents_line name) (contents_are_read at cells there.0 there.1)) in
     subst P (sym same) (f there.0 there.1)
 
--- the bytes of a name of the plan
-pub name_there : {X Y : Type 0} (f : X → List Y) (names : List X) (n : ℕ) (s : X) → n < length names → s ≡ get_or names n s → get_or (map f names) n [] ≡ f s
-name_there f [] n s lt e = absurd (omega (arith, lt))
-name_there f (x ∷ xs) zero s lt e = ap f (sym e)
-name_there f (x ∷ xs) (suc n) s lt e = name_there f xs n s (omega (arith, lt)) e
+-- the bytes of a name that is found among those of the plan
+pub name_there : {X : Type 0} (see : X → List ℕ) (names : List (List ℕ)) (n : ℕ) (found : Option X) (name : X)
+    → option_map see found ≡ slice_get names n → found ≡ Some name → get_or names n [] ≡ see name
+name_there see names n found name there is = get_or_from_slice_get names n (see name) [] (sym there ∙ ap (option_map see) is)
 
 -- Nothing that is printed is changed by its own statement.
 

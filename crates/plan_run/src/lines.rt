@@ -36,7 +36,10 @@ fn put_line<M: Mem, S: Sink>(
     ensures readable { M.readable mem.new ≡ M.readable mem.old }
     ensures writable { M.writable mem.new ≡ M.writable mem.old }
 {
-    let name = plan.names[op.name as usize].as_bytes();
+    let Some(name) = plan.names.get(op.name as usize) else {
+        unreachable!()
+    };
+    let name = name.as_bytes();
     if let Some(refusal) = answer {
         return out.put_refusal(op.line, refusal, name, sink);
     }

@@ -1,5 +1,4 @@
 use Rattle.std.proofs.Common.{subst, List, ℕ, sym, ◌∙◌}
-use Rattle.std.specs.Prelude.{string_bytes}
 use Rattle.frame_ast.specs.Contents.{elements}
 use Rattle.frame_ast.specs.Texts.{print_line}
 use Rattle.frame_print.specs.Gathering.{Gathers}
@@ -11,7 +10,6 @@ pub returns-in-Print-clause-text : goal.returns-in-Print-clause-text
 returns-in-Print-clause-text g c =
     let put = λ (text : List ℕ). Gathers (g.S.Sink.taken c.args.sink.now) c.args.out.now
     (g.S.Sink.taken c.put_container.new.sink) c.put_container.new.self c.put_container.result text in
-    let name = c.as_bytes-name.ensures.value ∙ sym (name_there (λ v. string_bytes v) c.args.plan.now.names.items c.args.op.now.name c.index.result.now
-    c.requires.fits.name c.index.ensures) in
+    let name = c.as_bytes-name.ensures.value ∙ sym (name_there (λ text. text.now) c.args.plan.now.names c.args.op.now.name _ _ c.get.ensures c.in-Some.is) in
     printed put c.args.op.now.line (name_of c.args.plan.now c.args.op.now.name) c.args.op.now.act c.in-Print.at (g.M.Mem.cells c.args.mem.now) c.args.answer
     c.in_default.is c.in-Print.is c.requires.stands (λ x h. subst (λ (n : List ℕ). put (print_line n (elements x) x)) name (c.put_container.ensures.text x h))
