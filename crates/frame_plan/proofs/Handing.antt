@@ -1,7 +1,6 @@
 -- A section is handed out, and the first one is planned.
 use Rattle.std.proofs.Common.{◌≡◌, ℕ, zero, suc, ◌+◌, ◌<◌, ◌≤◌, ◌⊎◌, inl, inr, ⊎_elim, Bool, true, false, List, [], ◌∷◌, ◌++◌, length, map, take, Option, None, Some, refl, sym, ap, subst, ◌∙◌, arith, append-nil}
-use Rattle.std.specs.Prelude.{Vec, get_or, slice_get, IsSome, if◌then◌else◌, String}
-use Rattle.std.specs.declared.alloc.Global.{Global}
+use Rattle.std.specs.Prelude.{get_or, slice_get, IsSome, if◌then◌else◌}
 use Rattle.std.specs.List.{list_any}
 use Rattle.frame_ast.specs.declared.script.Order.{Order}
 use Rattle.frame_ast.specs.declared.script.Order.TheVariants.{When}
@@ -50,7 +49,7 @@ not_test g s a h = absurd h
 -- ---- a section
 
 -- names that a plan took over
-pub names_handed : (script : Script) (given taken : List (String Global)) → taken ≡ given → AreNamesOf script given → AreNamesOf script taken
+pub names_handed : (script : Script) (given taken : List (List ℕ)) → taken ≡ given → AreNamesOf script given → AreNamesOf script taken
 names_handed script given taken e names = subst (AreNamesOf script) (sym e) names
 
 -- the planner stands where the section ends
@@ -66,9 +65,9 @@ at_end {book} {script} {table} {from} ready = record {
 }
 
 module _ (script : Script) (table : Table) (from : ℕ) (book : SectionBook) (ready : IsPlannedFrom book script table from) (new : Planner)
-    (none : Vec (String Global) Global) (plan : Plan) (test : Option Test)
+    (none : List (List ℕ)) (plan : Plan) (test : Option Test)
     (finished : IsFinished script book.planner plan) (emptied : IsEmptied book.planner new)
-    (tests : IsTestFor book.planner (slice_get script.statements.items book.at) test) (names : AreNamesOf script plan.names.items) where
+    (tests : IsTestFor book.planner (slice_get script.statements.items book.at) test) (names : AreNamesOf script plan.names) where
   abbrev s : ScriptState
   s = state_at script table book.at
 

@@ -1,7 +1,6 @@
 -- The words that a planner has for a name hold its contents.
 use Rattle.std.proofs.Common.{◌≡◌, ℕ, ◌<◌, ◌≤◌, Bool, true, false, length, get_or, Option, None, Some, refl, sym, ap, subst, ◌∙◌, arith}
-use Rattle.std.proofs.lemmas.List.{length-map}
-use Rattle.std.specs.Prelude.{slice_get, if◌then◌else◌, string_bytes}
+use Rattle.std.specs.Prelude.{slice_get, if◌then◌else◌}
 use Rattle.frame_ast.specs.declared.script.Script.{Script}
 use Rattle.frame_ast.specs.States.{ScriptState, container_of, contents_at}
 use Rattle.frame_ast.specs.States as states
@@ -27,7 +26,7 @@ no_container : (s : ScriptState) (o : Option Handle) → is_whole s (jobs_at o) 
 no_container s None = refl
 no_container s (Some h) = refl
 
-module _ {script : Script} {p : Planner} (at : IsInside script p) (name : ℕ) (low : name < length script.names.items) (cells : Memory) (last : ℕ)
+module _ {script : Script} {p : Planner} (at : IsInside script p) (name : ℕ) (low : name < length script.names) (cells : Memory) (last : ℕ)
     (held : AllHeld (λ k. get_or at.found k 0) (state_at script at.table at.n) cells) (within : AreWithin last at.found (state_at script at.table at.n)) where
   open at use {found, stands as st}
 
@@ -61,7 +60,7 @@ module _ {script : Script} {p : Planner} (at : IsInside script p) (name : ℕ) (
 
   pub bound : IsBindAt s cells last name (bind_named p name)
   bound =
-      let v = there p.world.values.items name (let e = st.knows.each in let l = length-map script.names.items (λ v. string_bytes v) in omega (arith, low)) in
+      let v = there p.world.values.items name (let e = st.knows.each in omega (arith, low)) in
       by v.0 v.1 (st.knows.names.are name v.0 v.1) (st.knows.names.there name v.0 v.1)
     where
       by : (v : Value) → slice_get p.world.values.items name ≡ Some v → value_for p.world.handles.items v ≡ s.values name

@@ -1,6 +1,6 @@
 -- A planner at a script's beginning.
 use Rattle.std.proofs.Common.{◌≡◌, ℕ, zero, suc, Bool, true, false, ◌&&◌, List, [], ◌++◌, length, Option, None, Some, refl, sym, ap, subst, ◌∙◌, arith}
-use Rattle.std.specs.Prelude.{nat_lt, replicate, slice_get, string_bytes}
+use Rattle.std.specs.Prelude.{nat_lt, replicate, slice_get}
 use Rattle.std.proofs.lemmas.List.{length-replicate}
 use Rattle.frame_ast.specs.declared.script.Script.{Script}
 use Rattle.frame_ast.specs.Jobs.{empty_book}
@@ -24,7 +24,6 @@ use Rattle.plan_state.specs.Growth.{given_from, given_in, waits_in, waits_of, un
 use Rattle.frame_plan.specs.Runs.{HasBegun}
 use Rattle.plan_state.specs.Stands.{value_for, IsThere, Agrees, draft_of}
 use Rattle.plan_state.specs.Steps.{StandsAt}
-use Rattle.plan_state.proofs.Reaching.{long}
 
 pub none_in : {A : Type 0} (xs : List A) (n : ℕ) (x : A) → xs ≡ [] → slice_get xs n ≡ Some x → ⊥
 none_in xs n x e h = none_some (sym (ap (λ l. slice_get l n) e) ∙ h)
@@ -38,7 +37,7 @@ all_alike (suc n) zero x y e = sym (some_is e)
 all_alike (suc n) (suc k) x y e = all_alike n k x y e
 
 pub record IsNew (p : Planner) (script : Script) : Type 0 where
-  pub values : p.world.values.items ≡ replicate (length script.names.items) Dead
+  pub values : p.world.values.items ≡ replicate (length script.names) Dead
   pub handles : p.world.handles.items ≡ []
   pub containers : p.world.containers.items ≡ []
   pub temps : p.world.temps.items ≡ []
@@ -77,7 +76,7 @@ module _ (script : Script) (table : Table) (p : Planner) (new : IsNew p script) 
   g = setting script table
 
   is_dead : (n : ℕ) (v : Value) → slice_get p.world.values.items n ≡ Some v → v ≡ Dead
-  is_dead n v e = all_alike (length script.names.items) n Dead v (sym (ap (λ l. slice_get l n) new.values) ∙ e)
+  is_dead n v e = all_alike (length script.names) n Dead v (sym (ap (λ l. slice_get l n) new.values) ∙ e)
 
   draft_is : empty_draft ≡ draft_of p
   draft_is =
@@ -103,7 +102,7 @@ module _ (script : Script) (table : Table) (p : Planner) (new : IsNew p script) 
         there = λ n v e. subst (IsThere (length p.world.containers.items) (length p.world.handles.items)) (sym (is_dead n v e)) tt;
         apart = λ n m k e f. absurd (not_dead k (is_dead n (Jobs k) e));
       };
-      each = ap length new.values ∙ length-replicate (length script.names.items) Dead ∙ sym (long (λ v. string_bytes v) script.names.items);
+      each = ap length new.values ∙ length-replicate (length script.names) Dead;
       containers = record {
         made = none_long p.world.containers.items new.containers;
         each = λ c it e. absurd (none_in p.world.containers.items c it new.containers e);

@@ -1,6 +1,6 @@
 -- The plan so far becomes a whole one: what it counts is small, and it is a plan of the script.
-use Rattle.std.proofs.Common.{◌≡◌, ℕ, zero, suc, ◌+◌, ◌*◌, ◌<◌, ◌≤◌, ◌^◌, ⊎_elim, Bool, true, false, cond, ne_eqb, eq-eqb, List, [], ◌∷◌, ◌++◌, length, map, None, Some, refl, sym, ap, subst, ◌∙◌, arith, append-nil}
-use Rattle.std.specs.Prelude.{nat_eq, slice_get, string_bytes}
+use Rattle.std.proofs.Common.{◌≡◌, ℕ, zero, suc, ◌+◌, ◌*◌, ◌<◌, ◌≤◌, ◌^◌, ⊎_elim, Bool, true, false, cond, ne_eqb, eq-eqb, List, [], ◌∷◌, ◌++◌, length, None, Some, refl, sym, ap, subst, ◌∙◌, arith, append-nil}
+use Rattle.std.specs.Prelude.{nat_eq, slice_get}
 use Rattle.std.specs.Int.{div_ceil}
 use Rattle.std.proofs.lemmas.Bool.{cases_eq, cases_lt, cond-false, leb-true}
 use Rattle.std.proofs.lemmas.Grind.{div_ceil_times}
@@ -102,7 +102,7 @@ module _ {script : Script} {p : Planner} (at : IsInside script p) where
   peak_small = let low = st.numbers.peak_low in let few = st.numbers.created_few in omega arith
 
   -- a plan that has all of the plan so far
-  pub agrees : (plan : Plan) → map (λ v. string_bytes v) plan.names.items ≡ map (λ v. string_bytes v) script.names.items
+  pub agrees : (plan : Plan) → plan.names ≡ script.names
       → plan.kernels.items ≡ p.draft.kernels.items → plan.literals.items ≡ p.draft.literals.items → plan.jobs.items ≡ p.draft.jobs.items
       → plan.cells ≡ peak_of p.world.store → plan.first.items ≡ p.draft.first.items
       → Agrees p (setting script table) begun found (outline_of plan found begun)
@@ -156,7 +156,7 @@ module _ {script : Script} {p : Planner} (at : IsInside script p) where
   ops_two [] last final e = let z = ap length e in omega arith
   ops_two (x ∷ more) last final e = let rest = ops_two more last final e in omega arith
 
-  pub is_done : (plan : Plan) (last final : Segment) → map (λ v. string_bytes v) plan.names.items ≡ map (λ v. string_bytes v) script.names.items
+  pub is_done : (plan : Plan) (last final : Segment) → plan.names ≡ script.names
       → plan.kernels.items ≡ p.draft.kernels.items → plan.codes.items ≡ p.draft.codes.items
       → plan.literals.items ≡ p.draft.literals.items → plan.jobs.items ≡ p.draft.jobs.items
       → plan.cells ≡ peak_of p.world.store → plan.first.items ≡ p.draft.first.items

@@ -78,7 +78,7 @@ pub record IsSectionOf (script : Script) (table : Table) (from to : ℕ) (sectio
   -- it goes past no `when` that acts
   pub between : NoneActs script table (suc from) to
   pub well_ordered : IsWellOrderedPlan section.plan
-  pub names : AreNamesOf script section.plan.names.items
+  pub names : AreNamesOf script section.plan.names
   pub jobs_before : section.jobs_before ≡ (state_at script table from).book.count
   pub lines : (state_at script table to).lines ≡ (state_at script table from).lines ++ plan_lines section.plan
   pub refused : (state_at script table to).refused ≡ (state_at script table from).refused + plan_refused section.plan
@@ -142,7 +142,7 @@ pub record IsPlannedFrom (book : SectionBook) (script : Script) (table : Table) 
   -- what it keeps of the work of kernels is as it cuts them
   pub works : book.planner.world.works.items ≡ works_by book.small_jobs script.kernels.items
   -- its plan can take these names over
-  pub names : AreNamesOf script book.names.items
+  pub names : AreNamesOf script book.names
   pub found : List ℕ
   pub stands : StandsAt book.planner script table (state_at script table from) book.at found
   pub grown : (starts : Starts) → StartAs starts found → HasGrown script table starts book.planner from book.at
@@ -173,7 +173,7 @@ pub record IsHandedOut (book : SectionBook) (plan : Plan) (script : Script) (tab
   pub works : book.planner.world.works.items ≡ works_by book.small_jobs script.kernels.items
   pub kernels : plan.kernels.items ≡ old.draft.kernels.items
   pub codes : plan.codes.items ≡ old.draft.codes.items
-  pub names : AreNamesOf script plan.names.items
+  pub names : AreNamesOf script plan.names
   pub held : AllHeld (λ k. get_or found k 0) (state_at script table n) carried
   pub len_is : len ≡ peak_of book.planner.world.store
 
@@ -203,7 +203,7 @@ pub record IsNext (book : SectionBook) (script : Script) (table : Table) (from :
   pub inside : (test : Test) → section.test ≡ Some test → test.at.start < section.plan.cells
   -- the book knows where the contents of each name lie that stands for a container then
   pub binds : (name : ℕ)
-      → name < length script.names.items
+      → name < length script.names
       → IsBindAt (state_at script table to) (cells_after section.plan) section.plan.cells name (bind_in book name)
   -- it is a later one, and the book is there once it has taken the plan back
   pub later : IsSome section.test → from < to

@@ -6,6 +6,7 @@ ghost use Rattle.plan_state.specs.Growth.{first_jobs};
 ghost use Rattle.frame_plan.specs.Names.{AreNamesOf};
 ghost use Rattle.frame_plan.specs.Runs.{IsInside, IsFinished, IsEmptied};
 
+use frame_ast::NameTexts;
 use frame_core::{Plan, Segment};
 use job_base::{JobId, NoMemory};
 use plan_state::{Draft, Planner};
@@ -17,11 +18,11 @@ use std::mem;
 pub(crate) fn finish(
     planner: &mut Planner,
     alloc: Global,
-    names: Vec<String>,
+    names: NameTexts,
 ) -> Result<Plan, NoMemory>
     requires { (script : Script) × IsInside script planner.old }
-    ensures plan { (script : Script) → AreNamesOf script names.items → IfOk result (IsFinished script planner.old) }
-    ensures names { IfOk result (λ plan. plan.names.items ≡ names.items) }
+    ensures plan { (script : Script) → AreNamesOf script names → IfOk result (IsFinished script planner.old) }
+    ensures names { IfOk result (λ plan. plan.names ≡ names) }
     ensures emptied { OnOk result (IsEmptied planner.old planner.new) }
 {
     let all = all_jobs(alloc, planner.draft.jobs.len() as u32)?;

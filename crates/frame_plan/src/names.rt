@@ -2,17 +2,13 @@
 ghost use Rattle.std.specs.Prelude.{IfOk};
 ghost use Rattle.frame_plan.specs.Names.{AreNamesOf};
 
+use frame_ast::NameTexts;
 use frame_ast::script::Script;
 use job_base::NoMemory;
-use std::alloc::Global;
 
-/// Copies of a script's names.
-pub(crate) fn names_of(alloc: Global, script: &Script) -> Result<Vec<String>, NoMemory>
-    ensures { IfOk result (λ names. AreNamesOf script.now names.items) }
+/// A copy of a script's names.
+pub(crate) fn names_of(script: &Script) -> Result<NameTexts, NoMemory>
+    ensures { IfOk result (λ names. AreNamesOf script.now names) }
 {
-    let mut names = Vec::new(alloc);
-    for name in &script.names {
-        names.push(name.clone()?)?;
-    }
-    Ok(names)
+    Ok(script.names.try_clone()?)
 }

@@ -15,6 +15,7 @@ use crate::planner::{at_start, run};
 use crate::resume::begin;
 use crate::section::{Section, Test};
 use crate::small_jobs::SmallJobs;
+use frame_ast::NameTexts;
 use frame_ast::script::{Order, Script};
 use frame_core::Plan;
 use job_base::{FlatMem, NoMemory};
@@ -34,7 +35,7 @@ pub struct SectionBook {
     /// How many statements were gone through.
     pub(crate) at: u32,
     /// The script's names, for the plan that is handed out next.
-    pub(crate) names: Vec<String>,
+    pub(crate) names: NameTexts,
     /// The cells with which the last section began, as memory that is needed no more.
     pub(crate) spare: Vec<i64>,
 }
@@ -63,7 +64,7 @@ impl SectionBook {
         }
         let mut planner = at_start(alloc, script, small_jobs)?;
         let at = run(&mut planner, alloc, script, table, 0)?;
-        let names = names_of(alloc, script)?;
+        let names = names_of(script)?;
         Ok(SectionBook {
             planner,
             small_jobs,
@@ -142,7 +143,7 @@ impl SectionBook {
     {
         let test = self.test(script);
         let jobs_before = self.planner.world.jobs_before;
-        let names = mem::replace(&mut self.names, Vec::new(alloc));
+        let names = mem::replace(&mut self.names, NameTexts::new(alloc));
         let plan = finish(&mut self.planner, alloc, names)?;
         Ok(Section {
             plan,

@@ -6,12 +6,11 @@ use Rattle.frame_plan.proofs.planner.at_start.Goals as goal
 
 pub returns-clause-begun : goal.returns-clause-begun
 returns-clause-begun c table =
-    let names : c.len.result ≡ length c.args.script.now.names.items = (let e = c.len.ensures in let l = c.args.script.now.names.ok.0 in omega arith) in
     let kernels : c.len-2.result ≡ length c.args.script.now.kernels.items =
     (let e = c.len-2.ensures in let l = c.args.script.now.kernels.ok.0 in omega arith) in
     let guards : c.len-3.result ≡ length c.args.script.now.kernels.items = (let e = c.len-3.ensures in let l = c.args.script.now.kernels.ok.0 in omega arith) in
     begun_new c.args.script.now table _ (record {
-      values = c.in_ok-dead_values.ensures ∙ ap (λ n. replicate n Dead) names;
+      values = c.in_ok-dead_values.ensures ∙ ap (λ n. replicate n Dead) c.len.ensures;
       handles = c.new.ensures.items;
       containers = c.in_ok-make_room.ensures.containers ∙ c.new-2.ensures.items;
       temps = c.new-3.ensures.items;

@@ -73,7 +73,7 @@ returns-in-Ok c = record {
         within = b.within;
         works = works_kept c.args.script.now between.before between.plan c.args.self.now c.run.new.planner.world.works between.taken_back
             (ran.gone.works ∙ ap (λ (p : Planner). p.world.works) resumed.rest) b.works;
-        names = subst (λ (k : SectionBook). AreNamesOf c.args.script.now k.names.items) (sym between.taken_back) b.names;
+        names = subst (λ (k : SectionBook). AreNamesOf c.args.script.now k.names) (sym between.taken_back) b.names;
         found = b.found ++ ran.gone.more;
         stands = ran.gone.stands;
         grown = λ starts same.
