@@ -9,7 +9,7 @@ use Rattle.frame_core.specs.declared.plan.JobPlan.{JobPlan}
 use Rattle.frame_core.specs.declared.plan.Segment.{Segment}
 use Rattle.frame_core.specs.declared.plan.Op.{Op}
 use Rattle.frame_core.specs.declared.plan.Plan.{Plan}
-use Rattle.ast_rows.proofs.Trees.{Place, vec, text}
+use Rattle.ast_rows.proofs.Trees.{Place, vec}
 use Rattle.ast_rows.proofs.Kernel.{Text, kernel}
 use Rattle.ast_rows.proofs.Kernels.{scale, total, bump, peek, slow, quick, shift, emit}
 
@@ -70,7 +70,7 @@ abbrev pub plan : Place → List Text → List String → List (List ℤ) → Li
 plan at kernels names literals jobs segments cells words = record {
   kernels = vec at (map (kernel at) kernels);
   codes = vec at [];
-  names = vec at (map (λ n. text at (codes n)) names);
+  names = map (λ n. codes n) names;
   literals = vec at (map (vec at) literals);
   jobs = vec at jobs;
   segments = vec at segments;
