@@ -12,4 +12,5 @@ returns-in-Print-clause-text g c =
     (g.S.Sink.taken c.put_container.new.sink) c.put_container.new.self c.put_container.result text in
     let name = c.as_bytes-name.ensures.value ∙ sym (name_there (λ text. text.now) c.args.plan.now.names c.args.op.now.name _ _ c.get.ensures c.in-Some.is) in
     printed put c.args.op.now.line (name_of c.args.plan.now c.args.op.now.name) c.args.op.now.act c.in-Print.at (g.M.Mem.cells c.args.mem.now) c.args.answer
-    c.in_default.is c.in-Print.is c.requires.stands (λ x h. subst (λ (n : List ℕ). put (print_line n (elements x) x)) name (c.put_container.ensures.text x h))
+    c.in_default-answer.is c.in-Print.is c.requires.stands
+    (λ x h. subst (λ (n : List ℕ). put (print_line n (elements x) x)) name (c.put_container.ensures.text x h))
