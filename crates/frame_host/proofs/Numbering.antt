@@ -59,7 +59,7 @@ module _ (a : FrameAnswer) (sound : IsAnswer a) (bytes : List ℕ) where
   pub is_bound : (k : ℕ) → place_named (answered_tree a) bytes ≡ Some k → (o : Option Bind) → bind_in a.book k ≡ o
       → IsBindAt s (cells_of a.cells.items) (length a.cells.items) k o
   is_bound k e o is = subst (IsBindAt s (cells_of a.cells.items) (length a.cells.items) k) is
-      (sound.reads k (place_low 0 bytes (answered_tree a).names k e))
+      (sound.reads k (omega (arith, place_low 0 bytes (answered_tree a).names k e)))
 
   pub no_bind : (k : ℕ) → place_named (answered_tree a) bytes ≡ Some k → bind_in a.book k ≡ None
       → numbers_named (answered_tree a) (answered_table a) bytes ≡ None
