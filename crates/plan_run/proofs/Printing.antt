@@ -1,6 +1,6 @@
 -- What an operation prints.
-use Rattle.std.proofs.Common.{◌≡◌, ℕ, List, [], get_or, Option, Some, None, option_map, slice_get, refl, sym, ap, subst, ◌∙◌}
-use Rattle.std.proofs.lemmas.Option.{get_or_from_slice_get}
+use Rattle.std.proofs.Common.{◌≡◌, ℕ, List, [], get_or, Option, Some, None, option_map, unwrap_or, slice_get, refl, sym, ap, subst, ◌∙◌}
+use Rattle.std.proofs.lemmas.Option.{unwrap_or-slice_get}
 use Rattle.job_base.specs.declared.Refusal.{Refusal}
 use Rattle.frame_ast.specs.Contents.{Contents, elements}
 use Rattle.frame_ast.specs.Texts.{print_line}
@@ -29,10 +29,11 @@ printed P line name act at cells answer none is may f =
     ∙ (ap (λ x. answer_line line name x cells None) is ∙ ap (contents_line name) (contents_are_read at cells there.0 there.1)) in
     subst P (sym same) (f there.0 there.1)
 
--- the bytes of a name that is found among those of the plan
-pub name_there : {X : Type 0} (see : X → List ℕ) (names : List (List ℕ)) (n : ℕ) (found : Option X) (name : X)
-    → option_map see found ≡ slice_get names n → found ≡ Some name → get_or names n [] ≡ see name
-name_there see names n found name there is = get_or_from_slice_get names n (see name) [] (sym there ∙ ap (option_map see) is)
+-- no bytes of a name that the plan doesn't have
+pub none_there : {X : Type 0} (see : X → List ℕ) (names : List (List ℕ)) (n : ℕ) (found : Option X)
+    → option_map see found ≡ slice_get names n → found ≡ None → [] ≡ get_or names n []
+none_there see names n found there is =
+    sym (sym (unwrap_or-slice_get names n []) ∙ ap (λ text. unwrap_or text []) (sym there ∙ ap (option_map see) is))
 
 -- Nothing that is printed is changed by its own statement.
 

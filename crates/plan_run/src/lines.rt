@@ -4,6 +4,7 @@ ghost use Rattle.job_base.specs.Faults.{Rose};
 ghost use Rattle.frame_print.specs.Gathering.{Gathers};
 ghost use Rattle.frame_core.specs.Touches.{act_touches, ops_touch};
 ghost use Rattle.frame_core.specs.Operations.{op_cells, op_answer, ops_cells, ops_refused, one_if_refused};
+ghost use Rattle.frame_core.specs.Names.{name_of};
 ghost use Rattle.frame_core.specs.Output.{op_line, ops_lines};
 ghost use Rattle.frame_core.specs.Ordered.{IsSized, OpFits, ActStands, OpsStand};
 ghost use Rattle.frame_core.specs.Rights.{MayReadIn, MayWriteIn};
@@ -13,6 +14,16 @@ ghost use Rattle.plan_run.specs.Says.{SaysTo};
 use frame_core::{Act, Op, Plan, apply_op};
 use frame_print::Outgoing;
 use job_base::{Mem, Refusal, Sink, SinkFault};
+
+// The bytes of the name that an operation speaks of.
+fn name_of<'a>(plan: &'a Plan, op: &Op) -> &'a [u8]
+    ensures { result.now ≡ name_of plan.now op.now.name }
+{
+    match plan.names.get(op.name as usize) {
+        Some(name) => name.as_bytes(),
+        None => &[],
+    }
+}
 
 // Puts the line of an operation that was answered so, if it has one.
 fn put_line<M: Mem, S: Sink>(
@@ -36,16 +47,12 @@ fn put_line<M: Mem, S: Sink>(
     ensures readable { M.readable mem.new ≡ M.readable mem.old }
     ensures writable { M.writable mem.new ≡ M.writable mem.old }
 {
-    let Some(name) = plan.names.get(op.name as usize) else {
-        unreachable!()
-    };
-    let name = name.as_bytes();
     if let Some(refusal) = answer {
-        return out.put_refusal(op.line, refusal, name, sink);
+        return out.put_refusal(op.line, refusal, name_of(plan, op), sink);
     }
     match &op.act {
-        Act::Print { at } => out.put_container(name, at, mem, sink),
-        Act::Report { made } => out.put_overdue(op.line, name, *made, sink),
+        Act::Print { at } => out.put_container(name_of(plan, op), at, mem, sink),
+        Act::Report { made } => out.put_overdue(op.line, name_of(plan, op), *made, sink),
         Act::Fill { .. }
         | Act::Move { .. }
         | Act::Say { .. }
