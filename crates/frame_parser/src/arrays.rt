@@ -1,4 +1,4 @@
-//! Lines of `array`, which are taken at once: whole without values, and phrase by phrase with values.
+//! Lines of `array` with values, which are taken at once, phrase by phrase.
 //!
 //! An array may have a million values, so a plain one costs one test of its kind and two notes. Where a phrase is
 //! another than those that are known here (`temp`, a file that ends within the line), what was noted of the line is
@@ -16,7 +16,6 @@ use frame_grammar::HasKind;
 use known_lines::arrays::{
     END, END_NOTES, HEAD, HEAD_NOTES, NEGATIVE, NEGATIVE_NOTES, PLAIN, PLAIN_NOTES,
 };
-use known_lines::statements::{ARRAY, ARRAY_NOTES};
 use std::alloc::AllocError;
 
 /// Takes the values behind the first. Answers the place after them.
@@ -82,16 +81,13 @@ fn take_known<T: HasKind>(
     ensures { IfOk result (λ next. MayTakeAll items_on items_on (map T.kind_of tokens.now) place next
         (events_of events.old.items) (events_of events.new.items)) }
 {
-    if let Some(next) = take_phrase(events, tokens, place, &ARRAY, &ARRAY_NOTES)? {
-        return Ok(Some(next));
-    }
     let Some(open) = take_phrase(events, tokens, place, &HEAD, &HEAD_NOTES)? else {
         return Ok(None);
     };
     take_all_values(events, tokens, open)
 }
 
-/// Takes the line of `array` at a place, if all of it is known. Answers how many tokens it took.
+/// Takes the line of `array` with values at a place, if all of it is known. Answers how many tokens it took.
 #[inline(never)]
 pub fn take_array<T: HasKind>(
     events: &mut Vec<Note>,

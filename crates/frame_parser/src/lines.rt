@@ -15,12 +15,12 @@ use crate::schedules::take_schedule;
 use frame_grammar::{Action as A, HasKind, TokenKind as K};
 use known_lines::are_at;
 use known_lines::statements::{
-    ADD, ADD_NOTES, ADD_PAIR, ADD_PAIR_NOTES, CLEAR, CLEAR_NOTES, COMPLETE, COMPLETE_NOTES, COPY,
-    COPY_NOTES, DISPOSE, DISPOSE_NOTES, EMPTY, EMPTY_NOTES, FLUSH, FLUSH_NOTES, FRAME, FRAME_NOTES,
-    LIST, LIST_NOTES, MAP, MAP_NOTES, PRINT, PRINT_NOTES, PUT, PUT_NOTES, REFERENCE,
-    REFERENCE_NOTES, REFERENCE_VALUE, REFERENCE_VALUE_NOTES, REMOVE, REMOVE_NOTES, SET, SET_AT,
-    SET_AT_NOTES, SET_CAPACITY, SET_CAPACITY_NOTES, SET_NOTES, SLICE, SLICE_NOTES, STREAM,
-    STREAM_NOTES, VIEW, VIEW_NOTES,
+    ADD, ADD_NOTES, ADD_PAIR, ADD_PAIR_NOTES, ARRAY, ARRAY_NOTES, CLEAR, CLEAR_NOTES, COMPLETE,
+    COMPLETE_NOTES, COPY, COPY_NOTES, DISPOSE, DISPOSE_NOTES, EMPTY, EMPTY_NOTES, FLUSH,
+    FLUSH_NOTES, FRAME, FRAME_NOTES, LIST, LIST_NOTES, MAP, MAP_NOTES, PRINT, PRINT_NOTES, PUT,
+    PUT_NOTES, REFERENCE, REFERENCE_NOTES, REFERENCE_VALUE, REFERENCE_VALUE_NOTES, REMOVE,
+    REMOVE_NOTES, SET, SET_AT, SET_AT_NOTES, SET_CAPACITY, SET_CAPACITY_NOTES, SET_NOTES, SLICE,
+    SLICE_NOTES, STREAM, STREAM_NOTES, VIEW, VIEW_NOTES,
 };
 use std::alloc::AllocError;
 
@@ -71,6 +71,26 @@ fn take_either<T: HasKind>(
     take_if_here(events, tokens, place, other.0, other.1)
 }
 
+/// The same of a line of `array`, without values or with some.
+// A line without values is told here, since most arrays have none, and a call takes as much as the line itself.
+#[inline(always)]
+fn take_either_array<T: HasKind>(
+    events: &mut Vec<Note>,
+    tokens: &[T],
+    place: usize,
+) -> Result<usize, AllocError>
+    requires within { place ≤ length tokens.now }
+    requires few { length tokens.now < 2 ^ 25 }
+    ensures { IfOk result (λ taken. TakesLines (map T.kind_of tokens.now) place (place + taken)
+        (events_of events.old.items) (events_of events.new.items)) }
+{
+    let taken = take_if_here(events, tokens, place, &ARRAY, &ARRAY_NOTES)?;
+    if taken > 0 {
+        return Ok(taken);
+    }
+    take_array(events, tokens, place)
+}
+
 /// Takes the line at a place, if it is one that is known. Answers how many tokens it took.
 #[inline(always)]
 fn take_line<T: HasKind>(
@@ -84,7 +104,7 @@ fn take_line<T: HasKind>(
         (events_of events.old.items) (events_of events.new.items)) }
 {
     match tokens[place].kind() {
-        K::Array => take_array(events, tokens, place),
+        K::Array => take_either_array(events, tokens, place),
         K::List => take_if_here(events, tokens, place, &LIST, &LIST_NOTES),
         K::Map => take_if_here(events, tokens, place, &MAP, &MAP_NOTES),
         K::Reference => take_either(
