@@ -1,16 +1,20 @@
 // The planner at a script's beginning, and how it goes from statement to statement.
-ghost use Rattle.std.specs.Prelude.{◌≡◌, ◌+◌, ◌≤◌, ℕ, List, [], true, false, None, replicate, IfOk, IfErr, OnOk, length};
+ghost use Rattle.std.specs.Prelude.{Box, ◌≡◌, ◌+◌, ◌≤◌, ℕ, List, [], true, false, None, replicate, IfOk, IfErr, OnOk, length};
+ghost use Rattle.std.specs.declared.alloc.Global.{Global};
+ghost use Rattle.frame_ast.specs.declared.script.NewJob.{NewJob};
+ghost use Rattle.frame_ast.specs.declared.script.Order.TheVariants.{Schedule};
 ghost use Rattle.frame_ast.specs.Accepted.{IsAccepted, is_when};
 ghost use Rattle.frame_ast.specs.Orders.{Table as Columns};
 ghost use Rattle.frame_ast.specs.States.{ScriptState};
 ghost use Rattle.frame_plan.specs.Runs.{HasBegun, IsAtStatement, HasPassed, StopsAt, GoesPast, FailsAtPlace, HasRun, PassesOnce};
+ghost use Rattle.plan_schedules.specs.Starting.{in_box};
 ghost use Rattle.plan_state.specs.Steps.{StandsAt};
 ghost use Rattle.plan_statements.specs.Tables.{columns_of};
 ghost use Rattle.frame_plan.specs.Works.{works_by};
 
 use crate::answers::answer;
 use crate::small_jobs::{SmallJobs, works_of};
-use frame_ast::script::{Order, Script, Statement};
+use frame_ast::script::{NewJob, Order, Script, Statement};
 use frame_core::Op;
 use job_base::NoMemory;
 use job_handle::JobBook;
@@ -167,22 +171,43 @@ fn act(
         FailsAtPlace script.now (columns_of table.now) fault planner.old statement.now) }
 {
     match &statement.act {
-        // By `?` an answer would be copied once more, here and below.
-        Order::Schedule(job) => {
-            match plan_schedules::schedule(&mut planner.world, alloc, script, job, gathered) {
-                Ok(answer) => Ok(
-                    planner
-                        .draft
-                        .take_job(alloc, script, statement.line, answer)?,
-                ),
-                Err(fault) => Err(fault),
-            }
-        }
+        Order::Schedule(job) => act_schedule(planner, alloc, script, statement, job, gathered),
         Order::When { .. } => unreachable!(),
+        // By `?` an answer would be copied once more, here and below.
         _ => match answer(&mut planner.world, alloc, script, table, statement) {
             Ok(answer) => Ok(planner.draft.take(alloc, statement.line, answer)?),
             Err(fault) => Err(fault),
         },
+    }
+}
+
+/// What a schedule does. Inlined, what it works with would be cleared for every other statement too.
+#[inline(never)]
+fn act_schedule(
+    planner: &mut Planner,
+    alloc: Global,
+    script: &Script,
+    statement: &Statement,
+    job: &NewJob,
+    gathered: &mut Gathered,
+) -> Result<(), PlanFault>
+    requires at { (columns : Columns) × IsAtStatement script.now columns planner.old statement.now }
+    requires acts { planner.old.world.passing ≡ 0 }
+    // The statement has its job in a box, whichever that is.
+    requires schedules { (home : Box NewJob Global) × (statement.now.act ≡ Schedule (in_box home job.now)) }
+
+    ensures passed { (columns : Columns)
+        → OnOk result (HasPassed script.now columns planner.old planner.new statement.now) }
+    ensures fails { (columns : Columns) → IfErr result (λ fault.
+        FailsAtPlace script.now columns fault planner.old statement.now) }
+{
+    match plan_schedules::schedule(&mut planner.world, alloc, script, job, gathered) {
+        Ok(answer) => Ok(
+            planner
+                .draft
+                .take_job(alloc, script, statement.line, answer)?,
+        ),
+        Err(fault) => Err(fault),
     }
 }
 

@@ -1,37 +1,22 @@
 use Rattle.std.proofs.Common.{refl}
 use Rattle.plan_statements.specs.Tables.{columns_of}
 use Rattle.plan_schedules.proofs.Forms.{boxed}
-use Rattle.frame_plan.proofs.Acting.{before, taken_in, scheduled_in, few_literals, exceeds_in, leaves}
+use Rattle.frame_plan.proofs.Acting.{before, taken_in, few_literals, exceeds_in, leaves}
 use Rattle.frame_plan.proofs.planner.act.Goals as goal
 
-pub schedule-requires : goal.schedule-requires
-schedule-requires c =
+pub act_schedule-requires : goal.act_schedule-requires
+act_schedule-requires c =
     record {
-      ready = (
-        c.args.statement.now.line,
-        c.in-Schedule.job,
-        c.args.planner.now,
-        columns_of c.args.table.now,
-        before c.requires.at c.requires.acts _ (boxed _ c.in-Schedule.job c.deref.result.now c.in-Schedule.is c.deref.ensures),
-      );
+      at = (columns_of c.args.table.now, c.requires.at);
+      acts = c.requires.acts;
+      schedules = (c.in-Schedule.job, boxed _ c.in-Schedule.job c.deref.result.now c.in-Schedule.is c.deref.ensures);
     }
 
-pub take_job-requires : goal.take_job-requires
-take_job-requires c =
-    record {
-      may = c.in-Ok.ensures.takes c.args.statement.now.line c.in-Schedule.job c.args.planner.now (columns_of c.args.table.now)
-          (before c.requires.at c.requires.acts _ (boxed _ c.in-Schedule.job c.deref.result.now c.in-Schedule.is c.deref.ensures));
-    }
-
-pub returns-in-Err-clause-fails : goal.returns-in-Err-clause-fails
-returns-in-Err-clause-fails c = exceeds_in c.requires.at
-    c.requires.acts _ (boxed _ c.in-Schedule.job c.deref.result.now c.in-Schedule.is c.deref.ensures) c.in-Err.fault
-    (c.in-Err.ensures.fails c.args.statement.now.line c.in-Schedule.job (columns_of c.args.table.now))
-
-pub returns-in_ok-take_job-in-Ok-clause-passed : goal.returns-in_ok-take_job-in-Ok-clause-passed
-returns-in_ok-take_job-in-Ok-clause-passed c = scheduled_in c.requires.at c.requires.acts _
-    (boxed _ c.in-Schedule.job c.deref.result.now c.in-Schedule.is c.deref.ensures) c.schedule.new.world c.take_job.new.self c.in-Ok.answer
-    (c.in-Ok.ensures.answers c.args.statement.now.line c.in-Schedule.job (columns_of c.args.table.now)) c.in_ok-take_job-in-Ok.ensures
+pub returns-in-Schedule : goal.returns-in-Schedule
+returns-in-Schedule c = record {
+  passed = c.act_schedule.ensures.passed (columns_of c.args.table.now);
+  fails = c.act_schedule.ensures.fails (columns_of c.args.table.now);
+}
 
 pub answer-requires : goal.answer-requires
 answer-requires c = record {
@@ -49,16 +34,16 @@ take-requires c = record {
       c.requires.acts _ refl;
 }
 
-pub returns-in-Err-answer : goal.returns-in-Err-answer
-returns-in-Err-answer c = record {
+pub returns-in-Err : goal.returns-in-Err
+returns-in-Err c = record {
   passed = tt;
   fails = exceeds_in c.requires.at
-      c.requires.acts _ refl c.in-Err-answer.fault c.in-Err-answer.ensures.fails;
+      c.requires.acts _ refl c.in-Err.fault c.in-Err.ensures.fails;
 }
 
-pub returns-in_ok-take-in-Ok-answer : goal.returns-in_ok-take-in-Ok-answer
-returns-in_ok-take-in-Ok-answer c = record {
+pub returns-in_ok-take-in-Ok : goal.returns-in_ok-take-in-Ok
+returns-in_ok-take-in-Ok c = record {
   passed = taken_in c.requires.at c.requires.acts _ refl c.answer.new.world
-      c.take.new.self c.in-Ok-answer.answer c.in-Ok-answer.ensures.answers c.in_ok-take-in-Ok-answer.ensures;
+      c.take.new.self c.in-Ok.answer c.in-Ok.ensures.answers c.in_ok-take-in-Ok.ensures;
   fails = tt;
 }
