@@ -272,24 +272,27 @@ pub fn begun_at(source: &[u8], place: usize) -> Option<Begun>
     ensures token { IfSome result (λ token. IsTokenAt source.now place token.kind token.end) }
     ensures none { result ≡ None ↔ kind_begun (slice_index source.now place) ≡ Bad }
 {
-    match kind_begun(source[place]) {
-        TokenKind::Bad => None,
-        TokenKind::Number => Some(Begun {
+    let kind = kind_begun(source[place]);
+    if let TokenKind::Name = kind {
+        let end = name_end(source, place + 1);
+        return Some(Begun {
+            kind: word_kind(&source[place..end]),
+            end,
+        });
+    }
+    if let TokenKind::Number = kind {
+        return Some(Begun {
             kind: TokenKind::Number,
             end: digits_end(source, place + 1),
-        }),
-        TokenKind::Name => {
-            let end = name_end(source, place + 1);
-            Some(Begun {
-                kind: word_kind(&source[place..end]),
-                end,
-            })
-        }
-        kind => Some(Begun {
-            kind,
-            end: place + 1,
-        }),
+        });
     }
+    if let TokenKind::Bad = kind {
+        return None;
+    }
+    Some(Begun {
+        kind,
+        end: place + 1,
+    })
 }
 
 /// What stands at a place of a file: the longest word, or a byte that begins none.
