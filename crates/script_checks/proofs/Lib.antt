@@ -4,6 +4,7 @@ pub mod NumberLemmas
 pub mod ValueLemmas
 pub mod NameLemmas
 pub mod IndexLemmas
+pub mod FirstLemmas
 pub mod PlaceLemmas
 pub mod TextLemmas
 pub mod KernelLemmas

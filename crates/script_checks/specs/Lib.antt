@@ -5,5 +5,6 @@ pub mod Spelling
 pub mod Checks
 -- for this crate's own contracts
 pub mod Index
+pub mod Firsts
 pub mod KernelIndex
 pub mod Scheduled

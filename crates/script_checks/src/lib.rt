@@ -11,6 +11,7 @@
 
 mod checks;
 mod fault;
+mod firsts;
 mod kernels;
 mod names;
 mod order_checks;

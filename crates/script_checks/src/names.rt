@@ -1,9 +1,10 @@
 //! The names of a script, in the order of their first making.
 
-ghost use Rattle.std.specs.Prelude.{◌≡◌, ℕ, All, ◌<◌, ◌-◌, ◌^◌, List, [], length, map, replicate, IfOk, None, Some, unwrap_or, IsUtf8};
+ghost use Rattle.std.specs.Prelude.{◌≡◌, ℕ, All, ◌<◌, ◌-◌, ◌^◌, List, [], length, map, IfOk, None, Some, unwrap_or, IsUtf8};
 ghost use Rattle.script_checks.specs.Names.{Name, place_in, kind_in, with_name};
-ghost use Rattle.script_checks.specs.Index.{known_of, hash_of, bucket_of, first_of, first_for, IsIndex};
+ghost use Rattle.script_checks.specs.Index.{known_of, hash_of, bucket_of, first_for, IsIndex};
 
+use crate::firsts::Firsts;
 use frame_ast::NameTexts;
 use frame_ast::name_kind::NameKind;
 use job_base::NoMemory;
@@ -48,30 +49,13 @@ fn bucket_of(count: usize, text: &[u8]) -> usize
     ((u64::from(hash_of(text)) * count as u64) >> 32) as usize
 }
 
-// The place of the first name of a bucket, where the first ones have these places.
-fn first_of(firsts: &[Option<u32>], bucket: usize) -> Option<u32>
-    requires { bucket < length firsts.now }
-    ensures { result ≡ first_of firsts.now bucket }
-{
-    firsts[bucket]
-}
-
-// The same of a text's bucket.
-fn first_for(firsts: &[Option<u32>], text: &[u8]) -> Option<u32>
+// The place of the first name of a text's bucket.
+fn first_for(firsts: &Firsts, text: &[u8]) -> Option<u32>
     requires some { 0 < length firsts.now }
     requires few { length firsts.now < 2 ^ 32 }
     ensures { result ≡ first_for firsts.now text.now }
 {
-    first_of(firsts, bucket_of(firsts.len(), text))
-}
-
-// So many buckets without a name.
-fn empty_buckets(alloc: Global, count: usize) -> Result<Vec<Option<u32>>, NoMemory>
-    ensures { IfOk result (λ buckets. buckets.items ≡ replicate count None) }
-{
-    let mut buckets = Vec::new(alloc);
-    buckets.resize(count, None)?;
-    Ok(buckets)
+    firsts.get(bucket_of(firsts.len(), text))
 }
 
 /// The most buckets that names have.
@@ -85,7 +69,7 @@ const MOST_BUCKETS: usize = 262_144;
 #[derive(Drop)]
 pub struct Names<'a> {
     /// The place of the first name of each bucket.
-    firsts: Vec<Option<u32>>,
+    firsts: Firsts,
     /// The places of the names in whose bucket an earlier name is.
     others: TextPlaces<'a>,
     entries: Vec<Entry<'a>>,
@@ -96,7 +80,7 @@ impl<'a> Model for Names<'a> {
 
     ghost view = { λ s. map known_of s.entries.items };
 
-    ghost invariant = { λ s. IsIndex s.firsts.items s.others s.entries.items };
+    ghost invariant = { λ s. IsIndex s.firsts s.others s.entries.items };
 }
 
 impl<'a> Names<'a> {
@@ -110,7 +94,7 @@ impl<'a> Names<'a> {
         ensures { IfOk result (λ names. names ≡ []) }
     {
         Ok(Names {
-            firsts: empty_buckets(alloc, buckets.clamp(1, MOST_BUCKETS))?,
+            firsts: Firsts::none(alloc, buckets.clamp(1, MOST_BUCKETS))?,
             // Where there are four buckets for each name, one name in eight is among the others.
             others: TextPlaces::new(alloc, buckets / 4),
             entries: Vec::new(alloc),
@@ -165,10 +149,10 @@ impl<'a> Names<'a> {
     {
         let place = self.entries.len() as u32;
         let bucket = bucket_of(self.firsts.len(), text);
-        match first_of(&self.firsts, bucket) {
+        match self.firsts.get(bucket) {
             None => {
                 self.entries.push(Entry { text, kind })?;
-                self.firsts[bucket] = Some(place);
+                self.firsts.set(bucket, place);
             }
             Some(_) => {
                 self.entries.push(Entry { text, kind })?;
@@ -196,13 +180,13 @@ impl<'a> Names<'a> {
     {
         let place = self.entries.len() as u32;
         let bucket = bucket_of(self.firsts.len(), text);
-        match first_of(&self.firsts, bucket) {
+        match self.firsts.get(bucket) {
             None => {
                 if place == u32::MAX {
                     return Err(NoMemory);
                 }
                 self.entries.push(Entry { text, kind })?;
-                self.firsts[bucket] = Some(place);
+                self.firsts.set(bucket, place);
                 Ok((place, kind))
             }
             Some(first) => {

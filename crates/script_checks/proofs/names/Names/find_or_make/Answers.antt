@@ -9,7 +9,7 @@ use Rattle.script_checks.proofs.names.Names.find_or_make.Goals as goal
 
 pub invariant_of-self-in-None : goal.invariant_of-self-in-None
 invariant_of-self-in-None c =
-    let firsts = c.self.inside.firsts.items in
+    let firsts = c.self.inside.firsts in
     let entries = c.self.inside.entries.items in
     let at : c.len-place.result ≡ length entries = search rules in
     let room : length entries < 2 ^ 32 - 1 = omega (arith, c.self.invariant.few, at, c.if-place.false) in
@@ -17,14 +17,14 @@ invariant_of-self-in-None c =
     let its : c.bucket_of-bucket.result ≡ bucket_of (length firsts) c.args.text.now =
     c.bucket_of-bucket.ensures.bucket ∙ ap (λ n. bucket_of n c.args.text.now) many in
     let empty : first_of firsts c.bucket_of-bucket.result ≡ None = search rules in
-    rw c.in_ok-push-in-None.ensures.items
+    rw c.set.ensures (rw c.in_ok-push-in-None.ensures.items
     (index_first firsts c.self.inside.others entries (record { text = c.args.text; kind = c.args.kind }) c.bucket_of-bucket.result c.len-place.result at
     c.self.invariant room its (subst (λ n. c.bucket_of-bucket.result < n) many c.bucket_of-bucket.ensures.within)
-    (ap (first_of firsts) (sym its) ∙ empty))
+    (ap (first_of firsts) (sym its) ∙ empty)))
 
 pub returns-then-is_same-clause-place : goal.returns-then-is_same-clause-place
 returns-then-is_same-clause-place c =
-    let firsts = c.self.inside.firsts.items in
+    let firsts = c.self.inside.firsts in
     let many : c.len.result ≡ length firsts = search rules in
     let its : c.bucket_of-bucket.result ≡ bucket_of (length firsts) c.args.text.now =
     c.bucket_of-bucket.ensures.bucket ∙ ap (λ n. bucket_of n c.args.text.now) many in
@@ -47,7 +47,7 @@ returns-then-is_same-clause-names c = known_already c.args.self.now c.args.text.
 -- no name is in its bucket, so it is none of them
 pub returns-in_ok-push-in-None-clause-place : goal.returns-in_ok-push-in-None-clause-place
 returns-in_ok-push-in-None-clause-place c =
-    let firsts = c.self.inside.firsts.items in
+    let firsts = c.self.inside.firsts in
     let entries = c.self.inside.entries.items in
     let at : c.len-place.result ≡ length entries = search rules in
     let many : c.len.result ≡ length firsts = search rules in
@@ -62,7 +62,7 @@ returns-in_ok-push-in-None-clause-place c =
 
 pub returns-in_ok-push-in-None-clause-kind : goal.returns-in_ok-push-in-None-clause-kind
 returns-in_ok-push-in-None-clause-kind c =
-    let firsts = c.self.inside.firsts.items in
+    let firsts = c.self.inside.firsts in
     let entries = c.self.inside.entries.items in
     let many : c.len.result ≡ length firsts = search rules in
     let its : c.bucket_of-bucket.result ≡ bucket_of (length firsts) c.args.text.now =

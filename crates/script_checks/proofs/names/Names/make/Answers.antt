@@ -8,7 +8,7 @@ use Rattle.script_checks.proofs.names.Names.make.Goals as goal
 
 pub invariant_of-self-in-None : goal.invariant_of-self-in-None
 invariant_of-self-in-None c =
-    let firsts = c.self.inside.firsts.items in
+    let firsts = c.self.inside.firsts in
     let entries = c.self.inside.entries.items in
     let room : length entries < 2 ^ 32 - 1 = omega (arith, c.requires.room, ap length c.self.view_is, length-map entries known_of) in
     let at : c.len-place.result ≡ length entries = search rules in
@@ -16,14 +16,14 @@ invariant_of-self-in-None c =
     let its : c.bucket_of-bucket.result ≡ bucket_of (length firsts) c.args.text.now =
     c.bucket_of-bucket.ensures.bucket ∙ ap (λ n. bucket_of n c.args.text.now) many in
     let empty : first_of firsts c.bucket_of-bucket.result ≡ None = search rules in
-    rw c.in_ok-push-in-None.ensures.items
+    rw c.set.ensures (rw c.in_ok-push-in-None.ensures.items
     (index_first firsts c.self.inside.others entries (record { text = c.args.text; kind = c.args.kind }) c.bucket_of-bucket.result c.len-place.result at
     c.self.invariant room its (subst (λ n. c.bucket_of-bucket.result < n) many c.bucket_of-bucket.ensures.within)
-    (ap (first_of firsts) (sym its) ∙ empty))
+    (ap (first_of firsts) (sym its) ∙ empty)))
 
 pub invariant_of-self-else-is_err : goal.invariant_of-self-else-is_err
 invariant_of-self-else-is_err c =
-    let firsts = c.self.inside.firsts.items in
+    let firsts = c.self.inside.firsts in
     let entries = c.self.inside.entries.items in
     let room : length entries < 2 ^ 32 - 1 = omega (arith, c.requires.room, ap length c.self.view_is, length-map entries known_of) in
     let at : c.len-place.result ≡ length entries = search rules in
@@ -46,7 +46,7 @@ returns-else-is_err c =
 -- the first name of its bucket is another, and it is none of the others
 pub put-requires : goal.put-requires
 put-requires c =
-    let firsts = c.self.inside.firsts.items in
+    let firsts = c.self.inside.firsts in
     let many : c.len.result ≡ length firsts = search rules in
     let its : c.bucket_of-bucket.result ≡ bucket_of (length firsts) c.args.text.now =
     c.bucket_of-bucket.ensures.bucket ∙ ap (λ n. bucket_of n c.args.text.now) many in
