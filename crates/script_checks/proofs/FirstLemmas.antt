@@ -15,7 +15,9 @@ one_less : (number : ℕ) (place : Option ℕ) → SomeIff place (1 ≤ number) 
 one_less zero None is = refl
 one_less zero (Some place) is = absurd (omega (arith, is.0))
 one_less (suc number) None is = absurd (is (omega arith))
-one_less (suc number) (Some place) is = ap (λ p. Some p) is.1
+one_less (suc number) (Some place) is =
+    let less : suc number - 1 ≡ number = omega arith in
+    ap (λ p. Some p) (is.1 ∙ less)
 
 pub first_noted : (numbers : List ℕ) (bucket number : ℕ) (place : Option ℕ) → bucket < length numbers → number ≡ get_or numbers bucket number
     → SomeIff place (1 ≤ number) (number - 1) → place ≡ first_of (map place_noted numbers) bucket
