@@ -9,7 +9,7 @@ use Rattle.frame_ast.specs.declared.kernel.FaultKind.TheVariants.{DuplicateName,
 use Rattle.frame_ast.specs.declared.kernel.Kernel.{Kernel}
 use Rattle.frame_grammar.specs.declared.symbols.Event.{Event}
 use Rattle.kernel_raw.specs.declared.raw.RawKernel.{RawKernel}
-use Rattle.kernel_code.specs.declared.check.StaticFault.{StaticFault}
+use Rattle.kernel_raw.specs.declared.fault.StaticFault.{StaticFault}
 use Rattle.kernel_raw.specs.RawEvents.{SpellsRaw}
 use Rattle.kernel_text.specs.Marks.{tokens_in}
 use Rattle.kernel_raw.specs.RawTexts.{raw_tokens, text_at}

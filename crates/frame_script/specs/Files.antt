@@ -3,7 +3,7 @@ use Rattle.std.specs.Prelude.{◌≡◌, ℕ, zero, suc, ◌+◌, Bool, true, fa
 use Rattle.frame_grammar.specs.declared.symbols.Event.{Event}
 use Rattle.job_base.specs.declared.limits.TheConstants.{MOST_STATEMENTS, MOST_TESTS}
 use Rattle.kernel_raw.specs.declared.raw.RawKernel.{RawKernel}
-use Rattle.kernel_code.specs.declared.check.StaticFault.{StaticFault}
+use Rattle.kernel_raw.specs.declared.fault.StaticFault.{StaticFault}
 use Rattle.kernel_raw.specs.RawEvents.{SpellsRaw}
 use Rattle.kernel_code.specs.StaticFaults.{first_fault}
 use Rattle.kernel_code.specs.Trees.{IsKernelOf}

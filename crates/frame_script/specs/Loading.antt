@@ -9,7 +9,7 @@ use Rattle.frame_parser.specs.declared.parser.ParseError.{ParseError}
 use Rattle.frame_parser.specs.declared.parser.ParseError.TheVariants as error
 use Rattle.frame_grammar.specs.Sentences.{IsOnlySentence, IsFault}
 use Rattle.kernel_text.specs.declared.token.Token.{Token}
-use Rattle.kernel_code.specs.declared.check.StaticFault.{StaticFault}
+use Rattle.kernel_raw.specs.declared.fault.StaticFault.{StaticFault}
 use Rattle.kernel_text.specs.Tokens.{tokens_of, kinds, token_line}
 use Rattle.kernel_text.specs.Marks.{IsOfKind}
 use Rattle.frame_script.specs.declared.fault.LoadFault.{LoadFault}

@@ -17,7 +17,7 @@ use Rattle.kernel_raw.specs.declared.raw.RawNode.{RawNode}
 use Rattle.kernel_raw.specs.declared.raw.RawParam.{RawParam}
 use Rattle.kernel_raw.specs.declared.raw.RawKernel.{RawKernel}
 use Rattle.kernel_raw.specs.declared.raw.TheConstants.{MOST_KEPT}
-use Rattle.kernel_code.specs.declared.check.StaticFault.{StaticFault}
+use Rattle.kernel_raw.specs.declared.fault.StaticFault.{StaticFault}
 use Rattle.kernel_code.specs.declared.check.names.Named.{Named}
 use Rattle.kernel_code.specs.declared.check.names.Named.TheVariants.{Parameter, Variable, LoopVariable}
 use Rattle.kernel_code.specs.declared.check.names.Local.{Local}

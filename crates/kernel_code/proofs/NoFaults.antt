@@ -7,7 +7,7 @@ use Rattle.kernel_raw.specs.declared.raw.RawForm.{RawForm}
 use Rattle.kernel_raw.specs.declared.raw.RawForm.TheVariants as form
 use Rattle.kernel_raw.specs.declared.raw.RawNode.{RawNode}
 use Rattle.kernel_raw.specs.declared.raw.RawKernel.{RawKernel}
-use Rattle.kernel_code.specs.declared.check.StaticFault.{StaticFault}
+use Rattle.kernel_raw.specs.declared.fault.StaticFault.{StaticFault}
 use Rattle.kernel_code.specs.Known.{IsFaultless}
 use Rattle.std.specs.Option.{option_or}
 use Rattle.frame_ast.specs.Lists.{some_if}

@@ -8,7 +8,7 @@ use Rattle.kernel_code.specs.declared.check.names.Local.{Local}
 use Rattle.kernel_code.specs.declared.check.names.Meaning.{Meaning}
 use Rattle.kernel_code.specs.declared.check.names.Named.{Named}
 use Rattle.kernel_code.specs.declared.check.streams.StreamBlock.{StreamBlock}
-use Rattle.kernel_code.specs.declared.check.StaticFault.{StaticFault}
+use Rattle.kernel_raw.specs.declared.fault.StaticFault.{StaticFault}
 use Rattle.std.specs.Option.{option_or}
 use Rattle.kernel_code.specs.Scopes.{declares, local_of, local_if, locals_from, locals_before, begun_among}
 use Rattle.kernel_code.specs.StaticFaults.{node_fault, nodes_fault}

@@ -26,7 +26,7 @@ use Rattle.kernel_raw.specs.declared.raw.RawParam.{RawParam}
 use Rattle.kernel_raw.specs.declared.raw.RawKernel.{RawKernel}
 use Rattle.kernel_code.specs.declared.check.names.Named.{Named}
 use Rattle.kernel_code.specs.declared.check.names.Named.TheVariants.{Parameter, Variable, LoopVariable}
-use Rattle.kernel_code.specs.declared.check.StaticFault.{StaticFault}
+use Rattle.kernel_raw.specs.declared.fault.StaticFault.{StaticFault}
 use Rattle.kernel_raw.specs.RawTexts.{kind_at, text_at, line_at, value_at, depth_at}
 use Rattle.kernel_code.specs.Scopes.{meaning_of, locals_before, is_begun}
 use Rattle.kernel_code.specs.Trees.{joins}

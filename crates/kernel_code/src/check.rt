@@ -23,17 +23,9 @@ mod streams;
 use crate::check::kernels::kernel_of;
 use crate::check::params::{fault_at, kernel_name_fault, params_fault};
 use crate::check::resolve::resolve;
-use frame_ast::kernel::{FaultKind, Kernel};
-use frame_grammar::TokenAt;
-use kernel_raw::{KernelFault, RawKernel, line_at, text_at};
+use frame_ast::kernel::Kernel;
+use kernel_raw::{KernelFault, RawKernel, StaticFault, line_at, text_at};
 use std::alloc::Global;
-
-/// A static fault, at the token of that place among those of the kernel.
-#[derive(Clone, Copy, Debug, PartialEq, Eq)]
-pub struct StaticFault {
-    pub at: TokenAt,
-    pub kind: FaultKind,
-}
 
 // The first fault of a kernel's name and parameters.
 fn head_fault(raw: &RawKernel<'_>, earlier: &[Kernel]) -> Option<StaticFault>

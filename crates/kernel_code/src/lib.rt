@@ -8,10 +8,11 @@
 
 mod check;
 
-pub use check::{StaticFault, check_kernel};
+pub use check::check_kernel;
 pub use frame_ast::kernel::{Body, FaultKind, Kernel, Param, ParamKind};
 pub use frame_grammar::{TokenAt, TokenKind};
 pub use kernel_raw::{
-    KernelFault, RawForm, RawKernel, RawNode, RawParam, are_shallow, parse_kernel, raw_kernel,
+    KernelFault, RawForm, RawKernel, RawNode, RawParam, StaticFault, are_shallow, parse_kernel,
+    raw_kernel,
 };
 pub use kernel_text::{Mark, Token, lex, line_at, lines_in};

@@ -1,8 +1,16 @@
 //! Why a text gives no kernel.
 
 use frame_ast::kernel::FaultKind;
+use frame_grammar::TokenAt;
 use job_base::NoMemory;
 use std::alloc::{AllocError, AllocFailed};
+
+/// A static fault, at the token of that place among those of the kernel.
+#[derive(Clone, Copy, Debug, PartialEq, Eq)]
+pub struct StaticFault {
+    pub at: TokenAt,
+    pub kind: FaultKind,
+}
 
 /// Why a text gives no kernel.
 #[derive(Clone, Copy, Debug, PartialEq, Eq)]

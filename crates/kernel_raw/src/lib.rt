@@ -18,7 +18,7 @@ mod reader;
 mod texts;
 
 pub use depths::{are_shallow, depth_at};
-pub use fault::KernelFault;
+pub use fault::{KernelFault, StaticFault};
 pub use kernel::{parse_kernel, raw_kernel};
 pub use raw::{RawForm, RawKernel, RawNode, RawParam, node_at};
 pub use texts::{is_above, is_spelled, kind_at, line_at, text_at, value_at};

@@ -1,6 +1,6 @@
 -- The faults of a copy, by what its source stands for.
 use Rattle.std.proofs.Common.{◌≡◌, ℕ, Bool, true, false, cond, List, [], ◌∷◌, Option, Some, None, refl, ◌∙◌, subst}
-use Rattle.kernel_code.specs.declared.check.StaticFault.{StaticFault}
+use Rattle.kernel_raw.specs.declared.fault.StaticFault.{StaticFault}
 use Rattle.frame_ast.specs.declared.kernel.FaultKind.TheVariants.{UnknownName, KindMismatch}
 use Rattle.frame_ast.specs.Lists.{first_some}
 use Rattle.script_checks.specs.declared.fault.OrderFault.{OrderFault}

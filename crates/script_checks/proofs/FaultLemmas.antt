@@ -1,6 +1,6 @@
 -- The first of several faults.
 use Rattle.std.proofs.Common.{◌≡◌, List, [], ◌∷◌, ◌++◌, Option, Some, None, Result, Ok, Err, IsErrAnd, refl, sym, ◌∙◌, subst}
-use Rattle.kernel_code.specs.declared.check.StaticFault.{StaticFault}
+use Rattle.kernel_raw.specs.declared.fault.StaticFault.{StaticFault}
 use Rattle.frame_ast.specs.Lists.{first_some}
 use Rattle.script_checks.specs.declared.fault.OrderFault.{OrderFault}
 use Rattle.script_checks.specs.declared.fault.OrderFault.TheVariants.{Refused, NoMemory}

@@ -2,7 +2,7 @@
 use Rattle.std.proofs.Common.{◌≡◌, ℕ, ◌+◌, ◌<◌, ◌≤◌, List, [], ◌∷◌, ◌++◌, length, map, take, drop, get_or, Option, None, sym, ◌∙◌, ap, subst, add-one, drop-cons}
 use Rattle.std.proofs.lemmas.List.{map-append, drop_all, take_all}
 use Rattle.std.proofs.Math.Seq.{take-suc}
-use Rattle.kernel_code.specs.declared.check.StaticFault.{StaticFault}
+use Rattle.kernel_raw.specs.declared.fault.StaticFault.{StaticFault}
 use Rattle.frame_ast.specs.Lists.{first_some}
 use Rattle.script_checks.specs.declared.fault.OrderFault.{OrderFault}
 use Rattle.script_checks.specs.Checks.{Refuses}

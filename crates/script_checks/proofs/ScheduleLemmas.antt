@@ -1,7 +1,7 @@
 -- The faults of a schedule, by what its kernel's name is.
 use Rattle.std.proofs.Common.{◌≡◌, ℕ, Bool, List, [], ◌∷◌, Option, Some, None, refl, sym, ◌∙◌, subst}
 use Rattle.std.specs.List.{slice_get}
-use Rattle.kernel_code.specs.declared.check.StaticFault.{StaticFault}
+use Rattle.kernel_raw.specs.declared.fault.StaticFault.{StaticFault}
 use Rattle.frame_ast.specs.declared.kernel.Kernel.{Kernel}
 use Rattle.frame_ast.specs.declared.kernel.FaultKind.TheVariants.{UnknownName}
 use Rattle.frame_ast.specs.declared.script.NewJob.{NewJob}

@@ -1,7 +1,7 @@
 -- What the check of a part of a statement answers: its first fault, or what it says.
 use Rattle.std.specs.Prelude.{◌≡◌, ℕ, map, Bool, true, false, List, [], Option, Some, None, Result, MatchResult}
 use Rattle.frame_parser.specs.Notes.{events_of}
-use Rattle.kernel_code.specs.declared.check.StaticFault.{StaticFault}
+use Rattle.kernel_raw.specs.declared.fault.StaticFault.{StaticFault}
 use Rattle.frame_ast.specs.declared.name_kind.NameKind.{NameKind}
 use Rattle.frame_ast.specs.Lists.{first_some}
 use Rattle.script_text.specs.declared.source.Source.{Source}

@@ -11,7 +11,7 @@ use Rattle.frame_ast.specs.declared.kernel.Kernel.{Kernel}
 use Rattle.frame_ast.specs.Schedules.{is_array, writes_to}
 use Rattle.frame_ast.specs.Lists.{first_some, some_if}
 use Rattle.frame_ast.specs.Accepted.{is_among, kinds_for, is_int, guard_fits}
-use Rattle.kernel_code.specs.declared.check.StaticFault.{StaticFault}
+use Rattle.kernel_raw.specs.declared.fault.StaticFault.{StaticFault}
 use Rattle.frame_ast.specs.declared.name_kind.NameKind.{NameKind}
 use Rattle.frame_ast.specs.declared.name_kind.TheConstants.{SLICEABLE, HAS_ELEMENTS, REMOVABLE, CLEARABLE, DISPOSABLE, CONTAINERS}
 use Rattle.frame_ast.specs.declared.name_kind.NameKind.TheVariants as kind

@@ -14,8 +14,9 @@ ghost use Rattle.script_checks.specs.Checks.{IsPlace, ArePlaces, Gives, Decides}
 use crate::{Names, OrderFault};
 use frame_ast::kernel::FaultKind;
 use frame_ast::name_kind::NameKind;
+use frame_grammar::TokenAt;
 use job_base::limits::{MOST_COLUMN_BYTES, MOST_NAME_BYTES};
-use kernel_code::{StaticFault, TokenAt};
+use kernel_raw::StaticFault;
 use script_text::{RawNumber, Source};
 use std::alloc::Global;
 

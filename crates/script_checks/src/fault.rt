@@ -1,7 +1,7 @@
 //! Why a statement is refused.
 
 use job_base::NoMemory;
-use kernel_code::StaticFault;
+use kernel_raw::StaticFault;
 use std::alloc::{AllocError, AllocFailed};
 
 /// Why a statement gives none of a script.

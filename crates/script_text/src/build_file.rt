@@ -10,7 +10,7 @@ ghost use Rattle.script_text.specs.Places.{IsFile};
 
 use frame_grammar::Nonterminal;
 use frame_parser::{ParseError, Sentence, parse};
-use kernel_code::Mark;
+use kernel_text::Mark;
 use std::alloc::Global;
 
 /// The events of the file that the tokens are. They are those of its items, one after another.

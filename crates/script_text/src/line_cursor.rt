@@ -5,7 +5,8 @@ ghost use Rattle.script_text.specs.Sources.{line_at};
 ghost use Rattle.script_text.specs.declared.source.Source.{Source};
 
 use crate::Source;
-use kernel_code::{TokenAt, lines_in};
+use frame_grammar::TokenAt;
+use kernel_text::lines_in;
 
 /// A place among the tokens of a file, and the line there.
 ///

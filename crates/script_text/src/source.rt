@@ -6,7 +6,8 @@ ghost use Rattle.script_text.specs.Places.{IsTest, TestStands};
 ghost use Rattle.script_text.specs.Signs.{sign_of, sign_in};
 
 use frame_ast::script::Sign;
-use kernel_code::{Mark, TokenAt, TokenKind, line_at};
+use frame_grammar::{TokenAt, TokenKind};
+use kernel_text::{Mark, line_at};
 
 /// A file: its bytes, and its tokens.
 #[derive(Clone, Copy, Debug)]

@@ -7,7 +7,7 @@ use Rattle.frame_ast.specs.declared.script.Script.{Script}
 use Rattle.frame_grammar.specs.declared.symbols.Event.{Event}
 use Rattle.frame_ast.specs.Lists.{first_some}
 use Rattle.kernel_raw.specs.declared.raw.RawKernel.{RawKernel}
-use Rattle.kernel_code.specs.declared.check.StaticFault.{StaticFault}
+use Rattle.kernel_raw.specs.declared.fault.StaticFault.{StaticFault}
 use Rattle.script_text.specs.declared.source.Source.{Source}
 use Rattle.script_text.specs.Sources.{number_at}
 use Rattle.script_checks.specs.Names.{Name}

@@ -4,7 +4,7 @@ use Rattle.frame_ast.specs.declared.kernel.Kernel.{Kernel as CheckedKernel}
 use Rattle.frame_grammar.specs.declared.symbols.Event.{Event}
 use Rattle.frame_ast.specs.Lists.{first_some}
 use Rattle.kernel_raw.specs.declared.raw.RawKernel.{RawKernel}
-use Rattle.kernel_code.specs.declared.check.StaticFault.{StaticFault}
+use Rattle.kernel_raw.specs.declared.fault.StaticFault.{StaticFault}
 use Rattle.kernel_code.specs.StaticFaults.{first_fault}
 use Rattle.script_text.specs.declared.source.Source.{Source}
 use Rattle.script_text.specs.Raw.{OrderForm, RawItems}

@@ -4,7 +4,7 @@ use Rattle.std.specs.Prelude.{slice_get}
 use Rattle.frame_ast.specs.declared.script.Script.{Script}
 use Rattle.frame_grammar.specs.declared.symbols.Nonterminal.TheVariants.{File}
 use Rattle.kernel_text.specs.declared.token.Token.{Token}
-use Rattle.kernel_code.specs.declared.check.StaticFault.{StaticFault}
+use Rattle.kernel_raw.specs.declared.fault.StaticFault.{StaticFault}
 use Rattle.kernel_text.specs.Tokens.{tokens_of, kinds}
 use Rattle.kernel_text.specs.Marks.{tokens_in}
 use Rattle.kernel_text.proofs.Marks.{marks_once}

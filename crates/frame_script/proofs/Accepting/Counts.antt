@@ -9,7 +9,7 @@ use Rattle.frame_ast.specs.declared.kernel.Kernel.{Kernel as CheckedKernel}
 use Rattle.frame_ast.specs.declared.script.Statement.{Statement}
 use Rattle.frame_ast.specs.Accepted.{is_when}
 use Rattle.kernel_raw.specs.declared.raw.RawKernel.{RawKernel}
-use Rattle.kernel_code.specs.declared.check.StaticFault.{StaticFault}
+use Rattle.kernel_raw.specs.declared.fault.StaticFault.{StaticFault}
 use Rattle.std.specs.Option.{option_or}
 use Rattle.frame_ast.specs.Lists.{some_if}
 use Rattle.kernel_code.specs.StaticFaults.{fault_at, lowest, number_of, kernel_name_fault, first_fault}

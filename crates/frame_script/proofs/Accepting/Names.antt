@@ -6,7 +6,7 @@ use Rattle.std.proofs.lemmas.Option.{slice_get-map}
 use Rattle.std.proofs.lemmas.Slice.Eq.{bytes_eq-Decides}
 use Rattle.frame_ast.specs.Accepted.{is_among, Names, uses, makes, all_used, made_after}
 use Rattle.frame_ast.specs.Accepted as accepted
-use Rattle.kernel_code.specs.declared.check.StaticFault.{StaticFault}
+use Rattle.kernel_raw.specs.declared.fault.StaticFault.{StaticFault}
 use Rattle.frame_ast.specs.declared.name_kind.NameKind.{NameKind}
 use Rattle.frame_ast.specs.declared.name_kind.NameKind.TheVariants as kind
 use Rattle.frame_ast.specs.Lists.{first_some}

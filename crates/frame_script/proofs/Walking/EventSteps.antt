@@ -5,7 +5,7 @@ use Rattle.frame_ast.specs.declared.kernel.FaultKind.{FaultKind}
 use Rattle.frame_ast.specs.declared.kernel.Kernel.{Kernel as CheckedKernel}
 use Rattle.frame_grammar.specs.declared.symbols.Action.{Action}
 use Rattle.frame_grammar.specs.declared.symbols.Event.{Event}
-use Rattle.kernel_code.specs.declared.check.StaticFault.{StaticFault}
+use Rattle.kernel_raw.specs.declared.fault.StaticFault.{StaticFault}
 use Rattle.kernel_raw.specs.RawEvents.{IsKernel}
 use Rattle.kernel_text.specs.Tokens.{kinds, NamesAreText}
 use Rattle.frame_ast.specs.Lists.{first_some}

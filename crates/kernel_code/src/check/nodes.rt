@@ -6,7 +6,6 @@ ghost use Rattle.kernel_code.specs.StaticFaults.{use_fault, answer_fault, declar
 ghost use Rattle.kernel_code.specs.Scopes.{locals_before, meaning_of, is_begun};
 ghost use Rattle.kernel_code.specs.Known.{AreBegun, AreNames, answer_named, name_named, meaning_if, has_name, has_answer};
 
-use crate::check::StaticFault;
 use crate::check::demands::{
     answer_kind_fault, demand_fault, fault_if, loop_variable_fault, lowest, variable_fault,
 };
@@ -18,7 +17,7 @@ use crate::check::streams::{StreamBlock, stands_in};
 use frame_ast::kernel::FaultKind;
 use frame_grammar::TokenAt;
 use job_base::limits::{MOST_LOCALS, MOST_PARAMS};
-use kernel_raw::{RawForm, RawKernel, RawNode, is_above, kind_at, text_at};
+use kernel_raw::{RawForm, RawKernel, RawNode, StaticFault, is_above, kind_at, text_at};
 
 /// The greatest number of a kernel's text.
 pub const MOST_NUMBER: u64 = 9_223_372_036_854_775_807;

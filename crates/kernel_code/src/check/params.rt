@@ -7,13 +7,12 @@ ghost use Rattle.std.specs.List.{list_any};
 ghost use Rattle.std.specs.Str.{bytes_eq};
 ghost use Rattle.std.specs.String.{string_bytes};
 
-use crate::check::StaticFault;
 use crate::check::demands::{fault_if, lowest};
 use frame_ast::kernel::{FaultKind, Kernel, ParamKind};
 use frame_grammar::TokenAt;
 use job_base::Access;
 use job_base::limits::{MOST_KERNELS, MOST_NAME_BYTES, MOST_PARAMS, MOST_WIDTH};
-use kernel_raw::{RawKernel, RawParam, is_spelled, text_at, value_at};
+use kernel_raw::{RawKernel, RawParam, StaticFault, is_spelled, text_at, value_at};
 
 /// A fault of the token at a place.
 pub fn fault_at(at: TokenAt, kind: Option<FaultKind>) -> Option<StaticFault>

@@ -5,7 +5,6 @@ ghost use Rattle.kernel_code.specs.StaticFaults.{is_over_limit, node_fault, node
 ghost use Rattle.kernel_code.specs.Scopes.{declares, end_in, block_end, local_of, local_if, locals_before, locals_of};
 ghost use Rattle.kernel_code.specs.Known.{AreNames, stands_in, is_block, IsKnown, name_named, name_stored, meanings_from};
 
-use crate::check::StaticFault;
 use crate::check::forms::{declares, is_begin, is_loop};
 use crate::check::names::{Local, Meaning, Named, as_local, names_of, parameter_at};
 use crate::check::nodes::look_up;
@@ -13,7 +12,7 @@ use crate::check::plain::plain_name;
 use crate::check::streams::{StreamBlock, close_blocks};
 use job_base::NoMemory;
 use job_base::limits::{MOST_DEPTH, MOST_LOCALS, MOST_NODES, MOST_PARAMS};
-use kernel_raw::{RawKernel, RawNode, depth_at};
+use kernel_raw::{RawKernel, RawNode, StaticFault, depth_at};
 use std::alloc::Global;
 
 /// What the names of the nodes stand for, and how many locals there are.

@@ -1,7 +1,7 @@
 use Rattle.std.proofs.Common.{◌≡◌, List, Option, Some, None, rules, ◌∙◌, sym, subst}
 use Rattle.std.specs.Option.{option_or}
 use Rattle.frame_ast.specs.declared.kernel.Kernel.{Kernel}
-use Rattle.kernel_code.specs.declared.check.StaticFault.{StaticFault}
+use Rattle.kernel_raw.specs.declared.fault.StaticFault.{StaticFault}
 use Rattle.kernel_raw.specs.declared.raw.RawKernel.{RawKernel}
 use Rattle.kernel_raw.specs.RawTexts.{text_at}
 use Rattle.kernel_code.specs.StaticFaults.{fault_at, kernel_name_fault, params_fault, nodes_fault, first_fault, TellsFault}

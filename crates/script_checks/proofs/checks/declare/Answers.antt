@@ -1,5 +1,5 @@
 use Rattle.std.proofs.Common.{◌≡◌, ℕ, List, rules, length, nat_le, [], ◌∷◌, Option, None, refl, sym, ◌∙◌, subst}
-use Rattle.kernel_code.specs.declared.check.StaticFault.{StaticFault}
+use Rattle.kernel_raw.specs.declared.fault.StaticFault.{StaticFault}
 use Rattle.frame_ast.specs.declared.kernel.FaultKind.TheVariants.{KindMismatch, Limit}
 use Rattle.job_base.specs.declared.limits.TheConstants.{MOST_NAME_BYTES}
 use Rattle.script_checks.specs.Faults.{unless, remake_fault, long_fault}

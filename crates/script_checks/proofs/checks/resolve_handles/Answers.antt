@@ -1,5 +1,5 @@
 use Rattle.std.proofs.Common.{arith, ◌≤◌, ◌∙◌, ℕ, Option, [], ◌∷◌, length}
-use Rattle.kernel_code.specs.declared.check.StaticFault.{StaticFault}
+use Rattle.kernel_raw.specs.declared.fault.StaticFault.{StaticFault}
 use Rattle.frame_ast.specs.declared.name_kind.NameKind.TheVariants.{Handle}
 use Rattle.script_checks.specs.Faults.{use_fault}
 use Rattle.script_checks.specs.Spelling.{place_of, names_with}

@@ -1,5 +1,5 @@
 use Rattle.std.proofs.Common.{arith, ◌≤◌, ◌∙◌, ℕ, Option, length}
-use Rattle.kernel_code.specs.declared.check.StaticFault.{StaticFault}
+use Rattle.kernel_raw.specs.declared.fault.StaticFault.{StaticFault}
 use Rattle.script_text.specs.Sources.{text_at}
 use Rattle.script_checks.specs.Faults.{waive_fault}
 use Rattle.script_checks.specs.Spelling.{param_place}

@@ -1,5 +1,5 @@
 use Rattle.std.proofs.Common.{◌≡◌, ℕ, List, length, nat_le, true, false, [], ◌∷◌, Option, Some, None, sym, ◌∙◌, ap, subst, unwrap_or}
-use Rattle.kernel_code.specs.declared.check.StaticFault.{StaticFault}
+use Rattle.kernel_raw.specs.declared.fault.StaticFault.{StaticFault}
 use Rattle.frame_ast.specs.declared.kernel.FaultKind.TheVariants.{KindMismatch, Limit}
 use Rattle.job_base.specs.declared.limits.TheConstants.{MOST_NAME_BYTES}
 use Rattle.script_checks.specs.Names.{place_in, kind_in, with_name}
