@@ -26,7 +26,7 @@ use Rattle.script_checks.specs.KernelIndex.{kernel_at}
 use Rattle.script_text.specs.Sources.{file_tokens, text_at as said_at}
 use Rattle.frame_script.specs.Files.{IsRawOf}
 use Rattle.frame_script.specs.Walking.{RefusesKernel}
-use Rattle.script_checks.proofs.NameLemmas.{bytes_eq-swap}
+use Rattle.script_names.proofs.NameLemmas.{bytes_eq-swap}
 
 neither : (a b : Bool) → (a || b) ≡ false → (a ≡ false) × (b ≡ false)
 neither true b h = cc

@@ -7,11 +7,12 @@ use Rattle.frame_ast.specs.declared.script.Order.{Order}
 use Rattle.script_text.specs.declared.source.Source.{Source}
 use Rattle.script_text.specs.Raw.{OrderForm, NewArray, NewColumn, NewList, NewReference, NewMap, NewStream, Slice, View, Copy, Schedule, Combine, Dispose, DisposeAuto}
 use Rattle.script_text.specs.Sources.{text_at}
-use Rattle.script_checks.specs.Names.{Name, place_in, kind_in}
+use Rattle.script_names.specs.Names.{Name, place_in, kind_in}
 use Rattle.script_checks.specs.Faults.{made_by, made_alike}
 use Rattle.script_checks.specs.Spelling.{Says, names_with, place_of}
 use Rattle.frame_script.specs.Made.{made_place}
-use Rattle.script_checks.proofs.PlaceLemmas.{first_made, place_within, place_kept}
+use Rattle.script_names.proofs.PlaceLemmas.{place_within, place_kept}
+use Rattle.script_checks.proofs.PlaceLemmas.{first_made}
 
 -- the same token
 same_token : {a b : ℕ} {k l : NameKind} → ◌≡◌ {A = Option (ℕ × NameKind)} (Some (a, k)) (Some (b, l)) → a ≡ b

@@ -15,7 +15,7 @@ use Rattle.script_text.specs.declared.known_orders.KnownOrder.TheVariants as kno
 use Rattle.script_text.specs.Known.{known_form}
 use Rattle.script_text.specs.Events.{closing}
 use Rattle.script_checks.specs.Faults.{Scope, order_faults}
-use Rattle.script_checks.specs.Names.{Name}
+use Rattle.script_names.specs.Names.{Name}
 use Rattle.script_checks.specs.Spelling.{Says}
 use Rattle.frame_script.specs.declared.walk.Walk.{Walk}
 use Rattle.frame_script.specs.Files.{literals_of}

@@ -14,7 +14,7 @@ use Rattle.frame_ast.specs.Lists.{first_some}
 use Rattle.script_text.specs.declared.source.Source.{Source}
 use Rattle.script_text.specs.Raw.{RawItems, Nothing, Kernel, Single, Block, KernelForm, OrderForm, NewArray, When, Repeat}
 use Rattle.script_text.specs.Sources.{line_at, number_at, signed_at}
-use Rattle.script_checks.specs.Names.{Name as Known}
+use Rattle.script_names.specs.Names.{Name as Known}
 use Rattle.script_checks.specs.Faults.{Scope, order_faults}
 use Rattle.script_checks.specs.Spelling.{Says, names_after}
 

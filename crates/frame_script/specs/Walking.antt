@@ -23,7 +23,7 @@ use Rattle.script_text.specs.Events.{SpellsItems}
 use Rattle.script_text.specs.Places.{ItemsStand}
 use Rattle.script_text.specs.Items.{SpellsOpen}
 use Rattle.script_text.specs.Sources.{file_tokens, line_at, number_at}
-use Rattle.script_checks.specs.Names.{Name, place_in}
+use Rattle.script_names.specs.Names.{Name, place_in}
 use Rattle.script_checks.specs.Faults.{Scope, kernel_in}
 use Rattle.script_checks.specs.Spelling.{kernel_place, names_after}
 use Rattle.frame_script.specs.Files.{IsRawOf, IsFaultless, HasFault, IsStatement, at_start, literals_of, literals_in}

@@ -14,7 +14,7 @@ use Rattle.script_text.specs.declared.raw.RawNumber.{RawNumber}
 use Rattle.script_text.specs.declared.source.Source.{Source}
 use Rattle.script_text.specs.Raw.{RawItems, Block, Repeat, When}
 use Rattle.script_text.specs.Sources.{line_at, number_at}
-use Rattle.script_checks.specs.Names.{Name as Known}
+use Rattle.script_names.specs.Names.{Name as Known}
 use Rattle.frame_script.specs.Files.{Repeated, IsStatement, StandFor, Mark, marks_of, literals_in, too_long}
 use Rattle.frame_script.specs.Copies.{IsCopy, AreCopies}
 

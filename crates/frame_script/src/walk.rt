@@ -24,9 +24,8 @@ use crate::written::Written;
 use frame_grammar::TokenAt;
 use frame_parser::Note;
 use job_base::NoMemory;
-use script_checks::{
-    Comparison, Kernels, Names, OrderFault, check_known, check_repeat, check_when,
-};
+use script_checks::{Comparison, Kernels, OrderFault, check_known, check_repeat, check_when};
+use script_names::Names;
 use script_text::{
     KnownOrder, LineCursor, RawItem, RawNumber, RawOrder, Source, known_item, raw_item,
 };

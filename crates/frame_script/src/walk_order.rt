@@ -16,7 +16,8 @@ use frame_ast::name_kind::NameKind;
 use frame_ast::script::Order;
 use frame_grammar::TokenAt;
 use job_base::NoMemory;
-use script_checks::{Kernels, Names, OrderFault, Valued, check_order, valued_array};
+use script_checks::{Kernels, OrderFault, Valued, check_order, valued_array};
+use script_names::Names;
 use script_text::{RawOrder, Source};
 use std::alloc::Global;
 

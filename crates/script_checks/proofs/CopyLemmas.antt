@@ -6,7 +6,7 @@ use Rattle.frame_ast.specs.Lists.{first_some}
 use Rattle.script_checks.specs.declared.fault.OrderFault.{OrderFault}
 use Rattle.frame_ast.specs.declared.name_kind.NameKind.{NameKind}
 use Rattle.script_text.specs.declared.source.Source.{Source}
-use Rattle.script_checks.specs.Names.{Name}
+use Rattle.script_names.specs.Names.{Name}
 use Rattle.frame_ast.specs.Accepted.{is_among}
 use Rattle.frame_ast.specs.declared.name_kind.TheConstants.{CONTAINERS}
 use Rattle.script_checks.specs.Faults.{unless, misfit, copy_fault, long_fault, make_fault}

@@ -12,7 +12,7 @@ use Rattle.script_checks.specs.declared.fault.OrderFault.{OrderFault}
 use Rattle.script_text.specs.declared.raw.RawArg.{RawArg}
 use Rattle.script_text.specs.declared.raw.RawSizes.{RawSizes}
 use Rattle.script_text.specs.declared.source.Source.{Source}
-use Rattle.script_checks.specs.Names.{Name}
+use Rattle.script_names.specs.Names.{Name}
 use Rattle.frame_ast.specs.declared.kernel.Kernel.{Kernel}
 use Rattle.frame_ast.specs.declared.kernel.FaultKind.TheVariants.{UnknownName, KindMismatch}
 use Rattle.frame_ast.specs.Schedules.{is_array, writes_to}

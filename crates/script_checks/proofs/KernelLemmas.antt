@@ -16,7 +16,7 @@ use Rattle.std.proofs.lemmas.Map.Text.{btree_map_updates_str}
 use Rattle.frame_ast.specs.declared.kernel.Kernel.{Kernel}
 use Rattle.frame_ast.specs.Accepted.{guard_fits}
 use Rattle.script_checks.specs.KernelIndex.{IsKernelIndex, kernel_at}
-use Rattle.script_checks.proofs.NameLemmas.{at_push, bytes_eq-swap, missing, both}
+use Rattle.script_names.proofs.NameLemmas.{at_push, bytes_eq-swap, missing, both}
 
 chosen : (kernels : List Kernel) (text q : List ℕ) → kernel_at kernels text ≡ None → (b : Bool) → bytes_eq text q ≡ b → (w : Option ℕ) →
     cond (nat_lt (position_or_len (λ k. bytes_eq q (string_bytes k.name)) kernels) (length kernels))

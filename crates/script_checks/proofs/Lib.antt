@@ -2,11 +2,7 @@ pub mod FaultLemmas
 pub mod ListLemmas
 pub mod NumberLemmas
 pub mod ValueLemmas
-pub mod NameLemmas
-pub mod IndexLemmas
-pub mod FirstLemmas
 pub mod PlaceLemmas
-pub mod TextLemmas
 pub mod KernelLemmas
 pub mod CopyLemmas
 pub mod JobLemmas

@@ -4,7 +4,7 @@ use Rattle.frame_ast.specs.declared.script.Order.{Order}
 use Rattle.script_checks.specs.declared.fault.OrderFault.{OrderFault}
 use Rattle.script_text.specs.declared.source.Source.{Source}
 use Rattle.script_text.specs.Raw.{OrderForm}
-use Rattle.script_checks.specs.Names.{Name}
+use Rattle.script_names.specs.Names.{Name}
 use Rattle.script_checks.specs.Faults.{Scope, made_by}
 use Rattle.script_checks.specs.Spelling.{Says, names_with, names_after}
 use Rattle.script_checks.specs.Checks.{Checked, Makes, bare}

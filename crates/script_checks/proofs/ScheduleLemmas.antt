@@ -10,7 +10,7 @@ use Rattle.script_checks.specs.declared.fault.OrderFault.{OrderFault}
 use Rattle.script_text.specs.declared.raw.RawArg.{RawArg}
 use Rattle.script_text.specs.declared.raw.RawSizes.{RawSizes}
 use Rattle.script_text.specs.declared.source.Source.{Source}
-use Rattle.script_checks.specs.Names.{Name}
+use Rattle.script_names.specs.Names.{Name}
 use Rattle.script_checks.specs.Faults.{scheduled_faults, kernel_in}
 use Rattle.script_checks.specs.KernelIndex.{kernel_at}
 use Rattle.script_checks.specs.Checks.{Refuses}

@@ -5,7 +5,7 @@ use Rattle.kernel_raw.specs.declared.fault.StaticFault.{StaticFault}
 use Rattle.frame_ast.specs.declared.name_kind.NameKind.{NameKind}
 use Rattle.frame_ast.specs.Lists.{first_some}
 use Rattle.script_text.specs.declared.source.Source.{Source}
-use Rattle.script_checks.specs.Names.{Name}
+use Rattle.script_names.specs.Names.{Name}
 use Rattle.frame_ast.specs.declared.script.Arg.{Arg}
 use Rattle.script_text.specs.declared.raw.RawArg.{RawArg}
 use Rattle.script_text.specs.declared.raw.RawOrder.{RawOrder}

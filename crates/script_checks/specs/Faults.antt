@@ -23,7 +23,7 @@ use Rattle.script_text.specs.declared.raw.RawSizes.TheVariants as sizes
 use Rattle.script_text.specs.declared.source.Source.{Source}
 use Rattle.script_text.specs.Sources.{text_at, column_at, number_at, fits_signed}
 use Rattle.script_text.specs.Raw.{OrderForm, NewArray, NewColumn, NewList, NewReference, NewMap, NewStream, Slice, View, Copy, Set, Add, Put, Remove, Clear, SetCapacity, Schedule, Combine, Complete, Dispose, DisposeAuto, Print, Flush, Frame, Repeat, When}
-use Rattle.script_checks.specs.Names.{Name as Known, kind_in}
+use Rattle.script_names.specs.Names.{Name as Known, kind_in}
 
 -- this fault at this token, where what is asked doesn't hold
 abbrev pub unless : Bool → FaultKind → ℕ → Option StaticFault

@@ -6,7 +6,7 @@ use Rattle.script_text.specs.declared.raw.RawSizes.{RawSizes}
 use Rattle.script_text.specs.declared.source.Source.{Source}
 use Rattle.script_checks.specs.declared.order_checks.jobs.Behind.{Behind}
 use Rattle.script_text.specs.Sources.{text_at}
-use Rattle.script_checks.specs.Names.{Name}
+use Rattle.script_names.specs.Names.{Name}
 use Rattle.script_checks.specs.Spelling.{cut_of, param_place}
 use Rattle.script_checks.specs.Checks.{AreArgs, IsDefer, ArePlaces}
 

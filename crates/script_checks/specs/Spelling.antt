@@ -21,7 +21,7 @@ use Rattle.frame_ast.specs.declared.name_kind.NameKind.{NameKind}
 use Rattle.script_text.specs.Raw.{OrderForm, NewArray, NewColumn, NewList, NewReference, NewMap, NewStream, Slice, View, Copy, Set, Add, Put, Remove, Clear, SetCapacity, Schedule, Combine, Complete, Dispose, DisposeAuto, Print, Flush, Frame, Repeat, When}
 use Rattle.script_text.specs.Signs.{sign_in}
 use Rattle.script_text.specs.Sources.{file_tokens, text_at, column_at, number_at, signed_at}
-use Rattle.script_checks.specs.Names.{Name as Known, place_in, with_name}
+use Rattle.script_names.specs.Names.{Name as Known, place_in, with_name}
 use Rattle.script_checks.specs.Faults.{made_by, kernel_in}
 
 -- PLACES

@@ -11,12 +11,13 @@ ghost use Rattle.job_base.specs.declared.limits.TheConstants.{MOST_NAME_BYTES};
 ghost use Rattle.script_checks.specs.Spelling.{place_of, names_with};
 ghost use Rattle.script_checks.specs.Checks.{IsPlace, ArePlaces, Gives, Decides};
 
-use crate::{Names, OrderFault};
+use crate::OrderFault;
 use frame_ast::kernel::FaultKind;
 use frame_ast::name_kind::NameKind;
 use frame_grammar::TokenAt;
 use job_base::limits::{MOST_COLUMN_BYTES, MOST_NAME_BYTES};
 use kernel_raw::StaticFault;
+use script_names::Names;
 use script_text::{RawNumber, Source};
 use std::alloc::Global;
 

@@ -4,22 +4,18 @@
 //! `check_order` takes a statement without a block, `check_known` one of those that many lines are, `valued_array` an
 //! array with values, `check_repeat` and `check_when` what stands before the brace of a block. Each answers the first
 //! fault in the order of the statement's tokens (`specs/Faults`), or the statement of a script that the text says
-//! (`specs/Spelling`), in which a name is its place among those of the script. [`Names`] finds the place of a name by
-//! its hash, and by `text_places` where several fall together, so an enemy who makes names of one hash gets no slow
-//! look-up; [`Kernels`] finds that of a kernel in a tree.
+//! (`specs/Spelling`), in which a name is its place among those of the script. `script_names` finds the place of a
+//! name; [`Kernels`] finds that of a kernel, in a tree.
 #![tactic(auto)]
 
 mod checks;
 mod fault;
-mod firsts;
 mod kernels;
-mod names;
 mod order_checks;
 mod values;
 
 pub use fault::OrderFault;
 pub use kernels::Kernels;
-pub use names::Names;
 pub use order_checks::{
     Comparison, Valued, check_known, check_order, check_repeat, check_when, valued_array,
 };

@@ -7,7 +7,7 @@ ghost use Rattle.script_text.specs.Raw.{form_of, Repeat, When};
 ghost use Rattle.kernel_text.specs.Tokens.{kinds};
 ghost use Rattle.script_text.specs.Sources.{file_tokens, number_at};
 ghost use Rattle.script_text.specs.Places.{TestStands};
-ghost use Rattle.script_checks.specs.Names.{Name};
+ghost use Rattle.script_names.specs.Names.{Name};
 ghost use Rattle.script_checks.specs.Faults.{unless, order_faults, limit_fault};
 ghost use Rattle.script_checks.specs.Checks.{Checked, among, is_plain, Gives, Decides};
 
@@ -17,7 +17,7 @@ mod known;
 mod makes;
 
 use crate::checks::{number_within, refuse, resolve, signed_number};
-use crate::{Kernels, Names, OrderFault};
+use crate::{Kernels, OrderFault};
 use frame_ast::kernel::FaultKind;
 use frame_ast::name_kind::NameKind;
 use frame_ast::script::Order;
@@ -26,6 +26,7 @@ use job_base::limits::{MOST_BLOCKS, MOST_REPEATS};
 use jobs::{Schedule, check_schedule};
 pub use known::check_known;
 pub use makes::{Valued, valued_array};
+use script_names::Names;
 use script_text::{RawNumber, RawOrder, Source};
 use std::alloc::Global;
 

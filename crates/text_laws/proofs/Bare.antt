@@ -10,7 +10,7 @@ use Rattle.kernel_raw.specs.declared.raw.RawKernel.{RawKernel}
 use Rattle.kernel_raw.specs.declared.fault.StaticFault.{StaticFault}
 use Rattle.script_text.specs.declared.source.Source.{Source}
 use Rattle.script_text.specs.Sources.{number_at}
-use Rattle.script_checks.specs.Names.{Name}
+use Rattle.script_names.specs.Names.{Name}
 use Rattle.script_text.specs.Raw.{OrderForm, Repeat, RawItems, Nothing, Kernel, Single, Block}
 use Rattle.script_checks.specs.Faults.{Scope, order_faults}
 use Rattle.frame_script.specs.Files.{IsRawOf, IsFaultless, HasFault, literals_of, literals_in, Repeated, IsStatement, StandFor, Mark, copies_of, marks_of, excess, too_long, IsScriptOf, in_block}

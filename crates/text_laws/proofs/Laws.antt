@@ -10,7 +10,7 @@ use Rattle.kernel_text.specs.Marks.{tokens_in}
 use Rattle.kernel_text.proofs.Marks.{marks_once}
 use Rattle.script_text.specs.declared.source.Source.{Source}
 use Rattle.script_text.specs.Sources.{line_at}
-use Rattle.script_checks.specs.Names.{Name}
+use Rattle.script_names.specs.Names.{Name}
 use Rattle.script_text.specs.Raw.{RawItems}
 use Rattle.script_text.specs.Events.{SpellsItems}
 use Rattle.script_checks.specs.Faults.{Scope}

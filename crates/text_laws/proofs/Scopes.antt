@@ -19,7 +19,7 @@ use Rattle.script_text.specs.declared.raw.RawArg.{RawArg}
 use Rattle.script_text.specs.declared.raw.RawSizes.{RawSizes}
 use Rattle.script_text.specs.declared.source.Source.{Source}
 use Rattle.script_text.specs.Sources as source
-use Rattle.script_checks.specs.Names.{Name}
+use Rattle.script_names.specs.Names.{Name}
 use Rattle.script_text.specs.Raw.{OrderForm, Schedule}
 use Rattle.script_checks.specs.Faults.{Scope, unless, make_fault, sizes_fit, room_fits, kernel_fault, arg_fault, args_faults, sizes_faults, handles_faults, waived_fault, waive_fault, kernel_in, param_in, scheduled_faults, order_faults}
 use Rattle.tree_laws.specs.Same.{SameParam, SameKernel, Pairwise}

@@ -6,7 +6,7 @@ use Rattle.kernel_text.specs.declared.mark.Mark.{Mark}
 use Rattle.script_text.specs.declared.source.Source.{Source}
 use Rattle.script_text.specs.Sources.{line_at, number_at}
 use Rattle.script_text.specs.Raw.{OrderForm, Schedule}
-use Rattle.script_checks.specs.Names.{Name}
+use Rattle.script_names.specs.Names.{Name}
 use Rattle.script_checks.specs.Faults.{Scope, order_faults}
 use Rattle.script_checks.specs.Spelling.{Says}
 use Rattle.frame_script.specs.Files.{after_order, literals_of}

@@ -10,7 +10,7 @@ use Rattle.frame_ast.specs.declared.script.Order.TheVariants as order
 use Rattle.frame_ast.specs.declared.script.Statement.{Statement}
 use Rattle.script_text.specs.declared.source.Source.{Source}
 use Rattle.script_text.specs.Sources.{text_at, number_at}
-use Rattle.script_checks.specs.Names.{Name}
+use Rattle.script_names.specs.Names.{Name}
 use Rattle.script_text.specs.Raw.{OrderForm, NewColumn, Schedule, Combine, Dispose, Repeat, RawItems, Nothing, Kernel, Single, Block}
 use Rattle.script_checks.specs.Faults.{kernel_in}
 use Rattle.script_checks.specs.Spelling.{kernel_place, param_place, params_of, params_named, Says}

@@ -9,7 +9,7 @@ use Rattle.frame_ast.specs.declared.script.Sign.{Sign}
 use Rattle.frame_ast.specs.Accepted.{uses, order_fits, made_after, is_when, block_of, statements_fit}
 use Rattle.frame_ast.specs.Orders.{made_by}
 use Rattle.frame_ast.specs.declared.name_kind.NameKind.TheVariants as kind
-use Rattle.script_checks.specs.Names.{Name}
+use Rattle.script_names.specs.Names.{Name}
 use Rattle.frame_script.specs.Files.{Repeated}
 use Rattle.frame_script.proofs.Accepting.Places.{le_test}
 use Rattle.frame_script.proofs.Accepting.Names.{scene}

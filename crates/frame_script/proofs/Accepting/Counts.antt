@@ -16,7 +16,7 @@ use Rattle.kernel_code.specs.StaticFaults.{fault_at, lowest, number_of, kernel_n
 use Rattle.kernel_raw.specs.RawTexts.{text_at}
 use Rattle.script_text.specs.declared.source.Source.{Source}
 use Rattle.script_text.specs.Sources.{number_at}
-use Rattle.script_checks.specs.Names.{Name}
+use Rattle.script_names.specs.Names.{Name}
 use Rattle.script_text.specs.Raw.{Repeat, When, RawItems, Nothing, Kernel, Single, Block}
 use Rattle.script_text.specs.Events.{SpellsItems, single, kernel, block}
 use Rattle.script_checks.specs.Faults.{Scope}

@@ -9,7 +9,7 @@ use Rattle.frame_ast.specs.Orders.{made_by}
 use Rattle.script_text.specs.declared.raw.RawNumber.{RawNumber}
 use Rattle.script_text.specs.declared.source.Source.{Source}
 use Rattle.script_text.specs.Sources.{number_at, signed_at}
-use Rattle.script_checks.specs.Names.{Name}
+use Rattle.script_names.specs.Names.{Name}
 use Rattle.script_checks.specs.Faults.{limit_fault, count_fault}
 use Rattle.script_checks.specs.Spelling.{literal_of}
 use Rattle.script_checks.proofs.NumberLemmas.{holds_from}

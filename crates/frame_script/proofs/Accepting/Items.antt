@@ -9,7 +9,7 @@ use Rattle.frame_ast.specs.Lists.{first_some}
 use Rattle.script_text.specs.declared.raw.RawNumber.{RawNumber}
 use Rattle.script_text.specs.declared.source.Source.{Source}
 use Rattle.script_text.specs.Sources.{number_at, signed_at}
-use Rattle.script_checks.specs.Names.{Name}
+use Rattle.script_names.specs.Names.{Name}
 use Rattle.script_text.specs.Raw.{OrderForm, Repeat, When, RawItems, Nothing, Kernel, Single, Block}
 use Rattle.script_text.specs.Events.{SpellsOrder, SpellsItems, closing}
 use Rattle.script_text.specs.Events as raw

@@ -12,9 +12,9 @@ use Rattle.frame_ast.specs.Lists.{first_some}
 use Rattle.script_text.specs.declared.raw.RawNumber.{RawNumber}
 use Rattle.script_text.specs.declared.source.Source.{Source}
 use Rattle.script_text.specs.Sources.{text_at, column_at, number_at, signed_at}
-use Rattle.script_checks.specs.Names.{kind_in}
+use Rattle.script_names.specs.Names.{kind_in}
 use Rattle.frame_ast.specs.declared.name_kind.TheConstants.{SLICEABLE, CONTAINERS}
-use Rattle.script_checks.specs.Names as names
+use Rattle.script_names.specs.Names as names
 use Rattle.script_text.specs.Raw.{NewArray, NewColumn, NewList, NewReference, NewMap, NewStream, Slice, View, Copy}
 use Rattle.script_checks.specs.Faults.{Scope, misfit, make_fault, copy_fault, order_faults, made_alike}
 use Rattle.script_checks.specs.Spelling.{place_of, literal_of, names_with, names_after}

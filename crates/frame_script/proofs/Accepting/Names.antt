@@ -12,7 +12,7 @@ use Rattle.frame_ast.specs.declared.name_kind.NameKind.TheVariants as kind
 use Rattle.frame_ast.specs.Lists.{first_some}
 use Rattle.script_text.specs.declared.source.Source.{Source}
 use Rattle.script_text.specs.Sources.{text_at}
-use Rattle.script_checks.specs.Names.{Name, is_called, place_in, kind_in}
+use Rattle.script_names.specs.Names.{Name, is_called, place_in, kind_in}
 use Rattle.script_checks.specs.Faults.{misfit, use_fault, agrees, make_fault, handles_faults}
 use Rattle.script_checks.specs.Spelling.{place_of, names_with}
 use Rattle.script_checks.proofs.NumberLemmas.{holds_from}

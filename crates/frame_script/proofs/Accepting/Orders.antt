@@ -6,7 +6,7 @@ use Rattle.frame_ast.specs.declared.script.Order.{Order}
 use Rattle.frame_ast.specs.Accepted.{is_when}
 use Rattle.frame_ast.specs.Lists.{first_some}
 use Rattle.script_text.specs.declared.source.Source.{Source}
-use Rattle.script_checks.specs.Names.{Name}
+use Rattle.script_names.specs.Names.{Name}
 use Rattle.script_text.specs.Raw.{OrderForm, NewArray, NewColumn, NewList, NewReference, NewMap, NewStream, Slice, View, Copy, Set, Add, Put, Remove, Clear, SetCapacity, Schedule, Combine, Complete, Dispose, DisposeAuto, Print, Flush, Frame, Repeat, When}
 use Rattle.script_text.specs.Events.{SpellsOrder, closing}
 use Rattle.script_checks.specs.Faults.{Scope, order_faults}

@@ -24,7 +24,7 @@ use Rattle.script_text.specs.declared.raw.RawSizes.{RawSizes}
 use Rattle.script_text.specs.declared.raw.RawSizes.TheVariants as sizes
 use Rattle.script_text.specs.declared.source.Source.{Source}
 use Rattle.script_text.specs.Sources.{text_at}
-use Rattle.script_checks.specs.Names as names
+use Rattle.script_names.specs.Names as names
 use Rattle.script_text.specs.Raw.{Schedule}
 use Rattle.script_checks.specs.Faults.{Scope, is_deferred, arg_fault, args_faults, sizes_fit, room_fits, takes, kernel_fault, sizes_faults, kernel_in, param_in, waived_fault, waive_fault, scheduled_faults, order_faults}
 use Rattle.script_checks.specs.Spelling.{place_of, kernel_place, param_place, params_of, params_named, arg_of, cut_of, defer_of, names_after, SaysJob}

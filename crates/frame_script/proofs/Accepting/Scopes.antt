@@ -3,7 +3,7 @@ use Rattle.std.proofs.Common.{◌≡◌, ℕ, Bool, true, false, cond, List, [],
 use Rattle.frame_grammar.specs.declared.symbols.Event.{Event}
 use Rattle.frame_ast.specs.declared.name_kind.NameKind.{NameKind}
 use Rattle.script_text.specs.declared.source.Source.{Source}
-use Rattle.script_checks.specs.Names.{Name}
+use Rattle.script_names.specs.Names.{Name}
 use Rattle.script_text.specs.Raw.{OrderForm, RawItems, Nothing, Kernel, Single, Block}
 use Rattle.script_text.specs.Events.{SpellsItems}
 use Rattle.script_text.specs.Events as raw

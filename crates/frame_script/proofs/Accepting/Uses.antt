@@ -14,7 +14,7 @@ use Rattle.script_text.specs.declared.raw.RawNumber.{RawNumber}
 use Rattle.script_text.specs.declared.source.Source.{Source}
 use Rattle.script_text.specs.Sources.{number_at, signed_at}
 use Rattle.frame_ast.specs.declared.name_kind.TheConstants.{REMOVABLE, CLEARABLE, DISPOSABLE, CONTAINERS}
-use Rattle.script_checks.specs.Names as names
+use Rattle.script_names.specs.Names as names
 use Rattle.script_text.specs.Raw.{Set, Add, Put, Remove, Clear, SetCapacity, Combine, Complete, Dispose, DisposeAuto, Print}
 use Rattle.script_text.specs.Events.{SpellsOrder, dispose, dispose_after}
 use Rattle.script_checks.specs.Faults.{Scope, set_kinds, add_kinds, order_faults, handles_faults, as_faults}

@@ -16,7 +16,7 @@ use Rattle.frame_script.specs.declared.walk.Walk.{Walk}
 use Rattle.script_text.specs.Raw.{OrderForm, RawItems, Nothing, Kernel, Single, Block, KernelForm, Repeat, When}
 use Rattle.script_text.specs.Events.{closing}
 use Rattle.script_text.specs.Places.{ItemsStand}
-use Rattle.script_checks.specs.Names.{Name}
+use Rattle.script_names.specs.Names.{Name}
 use Rattle.script_text.specs.Sources.{file_tokens}
 use Rattle.script_checks.specs.Faults.{Scope, order_faults}
 use Rattle.script_checks.specs.Spelling.{Says}

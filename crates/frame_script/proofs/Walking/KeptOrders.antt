@@ -15,7 +15,7 @@ use Rattle.script_text.specs.Raw.{OrderForm, NewArray, NewColumn, NewList, NewRe
 use Rattle.std.specs.List.{slice_get}
 use Rattle.script_text.specs.Signs.{sign_in}
 use Rattle.script_text.specs.Sources.{file_tokens, text_at, number_at, signed_at}
-use Rattle.script_checks.specs.Names.{Name, kind_in}
+use Rattle.script_names.specs.Names.{Name, kind_in}
 use Rattle.script_checks.specs.Faults.{Scope, order_faults, use_fault, misfit, kernel_in, takes, scheduled_faults, args_faults, sizes_faults, waive_fault, handles_faults, kernel_fault, made, made_alike}
 use Rattle.script_checks.specs.Spelling.{Says, names_after, names_with, place_of, literal_of, params_of, params_named, param_place, complete_of}
 use Rattle.frame_script.specs.Walking.{KeepsNames, KeepsKernels}

@@ -11,11 +11,11 @@ use Rattle.frame_ast.specs.declared.name_kind.NameKind.{NameKind}
 use Rattle.script_text.specs.declared.source.Source.{Source}
 use Rattle.script_text.specs.Raw.{OrderForm}
 use Rattle.script_text.specs.Sources.{text_at}
-use Rattle.script_checks.specs.Names.{Name}
+use Rattle.script_names.specs.Names.{Name}
 use Rattle.script_checks.specs.Faults.{made_by}
 use Rattle.script_checks.specs.Spelling.{names_with, names_after}
 use Rattle.frame_script.specs.Walking.{KeepsNames, KeepsKernels}
-use Rattle.script_checks.proofs.PlaceLemmas.{place_kept}
+use Rattle.script_names.proofs.PlaceLemmas.{place_kept}
 
 names_kept_with : (s : Source) (old new : List Name) (m : Option (ℕ × NameKind)) → KeepsNames (names_with s old m) new → KeepsNames old new
 names_kept_with s old new None keeps text place h = keeps text place h

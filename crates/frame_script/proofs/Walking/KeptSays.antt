@@ -12,11 +12,11 @@ use Rattle.script_text.specs.declared.raw.RawSizes.{RawSizes}
 use Rattle.script_text.specs.declared.raw.RawSizes.TheVariants as sizes
 use Rattle.script_text.specs.declared.source.Source.{Source}
 use Rattle.script_text.specs.Sources.{text_at, number_at}
-use Rattle.script_checks.specs.Names.{Name, place_in}
+use Rattle.script_names.specs.Names.{Name, place_in}
 use Rattle.script_checks.specs.Faults.{unless, misfit, use_fault, handles_faults, args_faults, arg_fault, sizes_faults}
 use Rattle.script_checks.specs.Spelling.{place_of, names_with, arg_of, defer_of}
 use Rattle.frame_script.specs.Walking.{KeepsNames}
-use Rattle.script_checks.proofs.PlaceLemmas.{kind_missing, place_kept, new_place}
+use Rattle.script_names.proofs.PlaceLemmas.{kind_missing, place_kept, new_place}
 
 -- PARTS WITHOUT A FAULT
 

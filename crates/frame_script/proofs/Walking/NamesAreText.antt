@@ -14,7 +14,7 @@ use Rattle.script_text.specs.declared.source.Source.{Source}
 use Rattle.script_text.specs.Raw.{OrderForm, NewArray, NewColumn, NewList, NewReference, NewMap, NewStream, Slice, View, Copy, Schedule, Combine, Dispose, DisposeAuto}
 use Rattle.script_text.specs.Places.{Stands, OrderStands}
 use Rattle.script_text.specs.Sources.{file_tokens, text_at}
-use Rattle.script_checks.specs.Names.{Name, place_in, kind_in}
+use Rattle.script_names.specs.Names.{Name, place_in, kind_in}
 use Rattle.script_checks.specs.Faults.{made_by, made_alike}
 use Rattle.script_checks.specs.Spelling.{names_with, names_after}
 

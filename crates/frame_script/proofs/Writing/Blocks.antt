@@ -8,7 +8,7 @@ use Rattle.script_text.specs.declared.source.Source.{Source}
 use Rattle.frame_script.specs.declared.written.OpenBlock.{OpenBlock}
 use Rattle.script_text.specs.Raw.{RawItems}
 use Rattle.script_text.specs.Sources.{number_at}
-use Rattle.script_checks.specs.Names.{Name as Known}
+use Rattle.script_names.specs.Names.{Name as Known}
 use Rattle.frame_script.specs.Files.{Mark, marks_of, copies_of, excess}
 use Rattle.frame_script.specs.Writing.{Writing, HasMark, IsPart, IsWrittenOf, outside, in_repeat, in_when, Completes, so_far, no_room}
 use Rattle.frame_script.proofs.Writing.Parts.{part_behind, zipped, when_mark}

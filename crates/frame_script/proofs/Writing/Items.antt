@@ -12,7 +12,7 @@ use Rattle.frame_script.specs.declared.written.OpenBlock.TheVariants as block
 use Rattle.script_text.specs.Raw.{RawItems, Nothing, Kernel, Single, Block, KernelForm, OrderForm, Repeat, When}
 use Rattle.script_text.specs.Events.{closing}
 use Rattle.script_text.specs.Sources.{line_at, number_at}
-use Rattle.script_checks.specs.Names.{Name as Known}
+use Rattle.script_names.specs.Names.{Name as Known}
 use Rattle.frame_script.specs.Files.{Repeated, IsStatement, StandFor, Mark, copies_of, literals_of, too_long, excess}
 use Rattle.frame_script.specs.Copies.{AreCopies}
 use Rattle.frame_script.specs.Writing.{Writing, nothing_written, put, put_unless, put_all, opened, with_count, count_at, ClosesIn, Closes, HasMark, HadRoom, IsPart, IsWrittenOf, outside, in_repeat, in_when, Completes, so_far, no_room}

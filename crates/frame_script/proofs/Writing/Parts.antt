@@ -11,7 +11,7 @@ use Rattle.script_text.specs.declared.source.Source.{Source}
 use Rattle.script_text.specs.Raw.{RawItems, Nothing, Kernel, Single, Block, KernelForm, OrderForm, NewArray, NewColumn, NewList, NewReference, NewMap, NewStream, Slice, View, Copy, Set, Add, Put, Remove, Clear, SetCapacity, Schedule, Combine, Complete, Dispose, DisposeAuto, Print, Flush, Frame, Repeat, When}
 use Rattle.script_text.specs.Events.{closing}
 use Rattle.script_text.specs.Sources.{number_at}
-use Rattle.script_checks.specs.Names.{Name as Known}
+use Rattle.script_names.specs.Names.{Name as Known}
 use Rattle.script_checks.specs.Spelling.{Says}
 use Rattle.frame_script.specs.Files.{Repeated, IsStatement, StandFor, Mark, marks_of, copies_of, literals_in, literals_of}
 use Rattle.frame_ast.specs.Accepted.{is_when}

@@ -8,14 +8,15 @@ ghost use Rattle.script_checks.specs.Faults.{as_faults, made_as, use_fault, set_
 ghost use Rattle.script_checks.specs.Spelling.{place_of, names_with};
 ghost use Rattle.script_checks.specs.Checks.{Checked, IsPlace, bare, Gives, Decides};
 
+use crate::OrderFault;
 use crate::checks::{
     declare, maybe_signed_number, number_within, resolve, resolve_handles, signed_number,
 };
-use crate::{Names, OrderFault};
 use frame_ast::name_kind::{CLEARABLE, CONTAINERS, DISPOSABLE, HAS_ELEMENTS, NameKind, REMOVABLE};
 use frame_ast::script::Order;
 use frame_grammar::TokenAt;
 use job_base::limits::MOST_ELEMENTS;
+use script_names::Names;
 use script_text::{RawNumber, Source};
 use std::alloc::Global;
 

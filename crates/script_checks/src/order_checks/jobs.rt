@@ -16,13 +16,14 @@ ghost use Rattle.script_checks.specs.Scheduled.{IsBehind};
 ghost use Rattle.script_text.specs.Raw as Form;
 
 use crate::checks::{declare, number_within, refuse, resolve, resolve_handles, signed_number};
-use crate::{Kernels, Names, OrderFault};
+use crate::{Kernels, OrderFault};
 use frame_ast::kernel::{FaultKind, Kernel, ParamKind, writes_to};
 use frame_ast::name_kind::{ARRAY_ARGUMENTS, HAS_ELEMENTS, NameKind};
 use frame_ast::script::{Arg, NewJob, Order};
 use frame_grammar::TokenAt;
 use job_base::Access;
 use job_base::limits::MOST_INDEXES;
+use script_names::Names;
 use script_text::{RawArg, RawNumber, RawSizes, Source};
 use std::alloc::Global;
 

@@ -10,13 +10,14 @@ ghost use Rattle.script_checks.specs.Spelling.{place_of, names_with};
 ghost use Rattle.script_checks.specs.Checks.{Checked, Makes, bare, Gives};
 
 use super::{changes, makes};
+use crate::OrderFault;
 use crate::checks::{check_text_length, is_among, number_within, refuse, resolve, signed_number};
-use crate::{Names, OrderFault};
 use frame_ast::kernel::FaultKind;
 use frame_ast::name_kind::{DISPOSABLE, NameKind};
 use frame_ast::script::{Life, Order};
 use frame_grammar::TokenAt;
 use job_base::limits::{MOST_ELEMENTS, MOST_PAIRS};
+use script_names::Names;
 use script_text::{KnownOrder, RawNumber, Source};
 use std::alloc::Global;
 

@@ -10,18 +10,19 @@ ghost use Rattle.script_text.specs.Sources.{signed_at};
 ghost use Rattle.script_checks.specs.Spelling.{Says, names_with};
 ghost use Rattle.script_checks.specs.Checks.{Checked, bare, valued_form, Gives, Decides};
 
+use crate::OrderFault;
 use crate::checks::{
     check_length, declare, is_among, maybe_signed_number, number_within, refuse, resolve,
     resolve_handles, short_column,
 };
 use crate::values::signed_values;
-use crate::{Names, OrderFault};
 use frame_ast::kernel::FaultKind;
 use frame_ast::name_kind::{CONTAINERS, NameKind, SLICEABLE};
 use frame_ast::script::{Life, Order};
 use frame_grammar::TokenAt;
 use frame_parser::Note;
 use job_base::limits::{MOST_ELEMENTS, MOST_PAIRS, MOST_STREAM_INDEXES, MOST_STREAM_ITEMS};
+use script_names::Names;
 use script_text::{RawNumber, Source, count_values};
 use std::alloc::Global;
 

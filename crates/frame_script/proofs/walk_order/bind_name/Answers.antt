@@ -1,7 +1,7 @@
 use Rattle.std.proofs.Common.{rules, ◌≡◌, ◌<◌, ◌≤◌, arith, length, Some, sym, ◌∙◌, ap, subst}
 use Rattle.script_text.specs.Raw.{form_of}
 use Rattle.script_text.specs.Sources.{text_at}
-use Rattle.script_checks.specs.Names.{place_in}
+use Rattle.script_names.specs.Names.{place_in}
 use Rattle.script_checks.specs.Faults.{made_by}
 use Rattle.script_checks.specs.Spelling.{names_with, place_of}
 use Rattle.frame_script.proofs.MadePlaces.{known_before, new_behind}

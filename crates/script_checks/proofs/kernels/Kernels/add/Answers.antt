@@ -1,6 +1,6 @@
 use Rattle.std.proofs.Common.{rules, ◌≡◌, ◌∙◌, ◌<◌, ◌-◌, ◌^◌, ◌++◌, ◌∷◌, [], None, sym, length}
 use Rattle.script_checks.specs.KernelIndex.{kernel_at}
-use Rattle.script_checks.proofs.NameLemmas.{on_ok}
+use Rattle.script_names.proofs.NameLemmas.{on_ok}
 use Rattle.script_checks.proofs.KernelLemmas.{kernel_added}
 use Rattle.script_checks.proofs.kernels.Kernels.add.Goals as goal
 

@@ -2,7 +2,7 @@ use Rattle.std.proofs.Common.{◌≡◌, ℕ, List, length, nat_le, true, false,
 use Rattle.kernel_raw.specs.declared.fault.StaticFault.{StaticFault}
 use Rattle.frame_ast.specs.declared.kernel.FaultKind.TheVariants.{KindMismatch, Limit}
 use Rattle.job_base.specs.declared.limits.TheConstants.{MOST_NAME_BYTES}
-use Rattle.script_checks.specs.Names.{place_in, kind_in, with_name}
+use Rattle.script_names.specs.Names.{place_in, kind_in, with_name}
 use Rattle.script_checks.specs.Faults.{unless, remake_fault, long_fault}
 use Rattle.script_checks.specs.Spelling.{names_with}
 use Rattle.script_checks.specs.Checks.{Refuses}

@@ -1,5 +1,5 @@
 use Rattle.std.proofs.Common.{rules}
-use Rattle.script_checks.specs.Names.{kind_in}
+use Rattle.script_names.specs.Names.{kind_in}
 use Rattle.script_text.specs.Sources.{text_at}
 use Rattle.script_checks.proofs.FaultLemmas.{refuses, exits, refused_by}
 use Rattle.script_checks.proofs.PlaceLemmas.{stays}

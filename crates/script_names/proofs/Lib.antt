@@ -1,0 +1,5 @@
+pub mod NameLemmas
+pub mod IndexLemmas
+pub mod FirstLemmas
+pub mod PlaceLemmas
+pub mod TextLemmas
