@@ -1,24 +1,14 @@
-// The small changes that every statement is made of: an operation more in the draft, and what a name stands for.
+// What a name stands for, and the jobs that names of handles stand for.
 ghost use Rattle.std.specs.Prelude.{◌≡◌, ◌<◌, ◌≤◌, ◌*◌, ◌^◌, ◌||◌, ℕ, All, OnOk, vec_len};
 ghost use Rattle.job_base.specs.declared.limits.TheConstants.{MOST_JOBS};
 ghost use Rattle.frame_ast.specs.Jobs.{nobody, only};
 ghost use Rattle.job_handle.specs.Sets.{jobs_of};
 ghost use Rattle.plan_state.specs.Stands.{IsThere};
-ghost use Rattle.plan_state.specs.Accesses.{AreThere, HasHandle, IsPushed, IsRenamed, jobs_by, jobs_of_value};
+ghost use Rattle.plan_state.specs.Accesses.{AreThere, HasHandle, IsRenamed, jobs_by, jobs_of_value};
 
-use crate::state::{Planner, Value, World};
-use frame_core::{Act, Op};
+use crate::state::{Value, World};
 use job_base::{JobId, NoMemory};
 use job_handle::Handle;
-
-impl Planner {
-    /// The segment at hand does one operation more.
-    pub fn push(&mut self, line: u32, name: u32, act: Act) -> Result<(), NoMemory>
-        ensures { OnOk result (IsPushed self.old self.new (record { line = line; name = name; act = act })) }
-    {
-        self.draft.push(Op { line, name, act })
-    }
-}
 
 impl World {
     /// A name stands for another value.
