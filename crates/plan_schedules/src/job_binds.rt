@@ -103,7 +103,7 @@ fn as_array(width: u32, bind: Bind) -> Bind
         Bind::Array { at, .. } => Bind::Array { at, own: width },
         Bind::View { at, .. } => Bind::View { at, own: width },
         Bind::List(at) => Bind::View { at, own: width },
-        other => other,
+        Bind::Int(_) | Bind::Ref(_) | Bind::Map(_) | Bind::Stream { .. } => bind,
     }
 }
 
@@ -115,6 +115,11 @@ fn as_stream(width: u32, bind: Bind) -> Bind
             at,
             own: width != 0,
         },
-        other => other,
+        Bind::Int(_)
+        | Bind::Array { .. }
+        | Bind::View { .. }
+        | Bind::List(_)
+        | Bind::Ref(_)
+        | Bind::Map(_) => bind,
     }
 }

@@ -128,7 +128,12 @@ fn slice_of(container: Container, from: u32, len: u32) -> Bind
             },
             own: 0,
         },
-        other => other,
+        Bind::Int(_)
+        | Bind::View { .. }
+        | Bind::List(_)
+        | Bind::Ref(_)
+        | Bind::Map(_)
+        | Bind::Stream { .. } => container.bind,
     }
 }
 
@@ -138,6 +143,11 @@ fn view_of(bind: Bind) -> Bind
 {
     match bind {
         Bind::List(at) => Bind::View { at, own: 0 },
-        other => other,
+        Bind::Int(_)
+        | Bind::Array { .. }
+        | Bind::View { .. }
+        | Bind::Ref(_)
+        | Bind::Map(_)
+        | Bind::Stream { .. } => bind,
     }
 }

@@ -28,7 +28,7 @@ impl World {
     {
         match self.values[name as usize] {
             Value::Jobs(place) => self.handles[place as usize].set_to(jobs),
-            _ => {
+            Value::Dead | Value::Whole(_) | Value::Slice { .. } | Value::View { .. } => {
                 let place = self.handles.len() as u32;
                 self.handles.push(*jobs)?;
                 self.values[name as usize] = Value::Jobs(place);
@@ -50,7 +50,9 @@ impl World {
                 self.handles[place as usize].set_to_job(job);
                 Ok(())
             }
-            _ => self.set_handle(name, &Handle::of(job)),
+            Value::Dead | Value::Whole(_) | Value::Slice { .. } | Value::View { .. } => {
+                self.set_handle(name, &Handle::of(job))
+            }
         }
     }
 
@@ -66,7 +68,9 @@ impl World {
                 self.handles[place as usize].clear();
                 Ok(())
             }
-            _ => self.set_handle(name, &Handle::empty()),
+            Value::Dead | Value::Whole(_) | Value::Slice { .. } | Value::View { .. } => {
+                self.set_handle(name, &Handle::empty())
+            }
         }
     }
 
@@ -101,7 +105,7 @@ impl World {
     {
         match value {
             Value::Jobs(place) => all.add_all(&self.handles[place as usize]),
-            _ => {}
+            Value::Dead | Value::Whole(_) | Value::Slice { .. } | Value::View { .. } => {}
         }
     }
 }

@@ -1,4 +1,4 @@
-use Rattle.std.proofs.Common.{◌||◌, ap, subst, sym, ◌∙◌}
+use Rattle.std.proofs.Common.{◌||◌, ap, subst, sym, ◌∙◌, arith}
 use Rattle.std.specs.Prelude.{vec_len}
 use Rattle.job_handle.specs.Sets.{jobs_of}
 use Rattle.plan_state.specs.Accesses.{jobs_in, jobs_of_value}
@@ -15,5 +15,7 @@ returns-in-Jobs c j =
     ap (λ f. f j) c.add_all.ensures
     ∙ ap (λ f. jobs_of c.args.all.now j || f j) (ap jobs_in (sym read) ∙ ap (jobs_of_value s.handles.items) (sym c.in-Jobs.is))
 
-pub returns-in_default : goal.returns-in_default
-returns-in_default c j = none_joined c.args.self.now.handles.items c.args.value c.in_default.not-Jobs (jobs_of c.args.all.now j) j
+pub returns-in-Dead : goal.returns-in-Dead
+returns-in-Dead c j =
+    let one_of_these = c.in-Dead.is in
+    none_joined c.args.self.now.handles.items c.args.value (λ k jobs. grind arith) (jobs_of c.args.all.now j) j

@@ -19,9 +19,9 @@ returns-in-Jobs c =
     let len = s.handles.ok.0 in
     own_place s _ c.args.name c.in-Jobs.place c.set_to.new.self (jobs_of c.args.jobs.now) read (omega arith) refl c.set_to.ensures
 
-pub returns-in_ok-push-in_default : goal.returns-in_ok-push-in_default
-returns-in_ok-push-in_default c =
+pub returns-in_ok-push-in-Dead : goal.returns-in_ok-push-in-Dead
+returns-in_ok-push-in-Dead c =
     let s = c.args.self.now in
     let len = s.handles.ok.0 in
     let place = c.len-place.ensures in
-    new_place s _ c.push.new.self c.args.name c.len-place.result c.args.jobs.now (omega arith) c.in_ok-push-in_default.ensures.items refl
+    new_place s _ c.push.new.self c.args.name c.len-place.result c.args.jobs.now (omega arith) c.in_ok-push-in-Dead.ensures.items refl
