@@ -5,7 +5,7 @@
 -- `Steps`.
 use Rattle.std.specs.Prelude.{ℕ, suc, ◌+◌, ◌≡◌, ◌<◌, ◌≤◌, ◌^◌, true, false, ◌&&◌, nat_eq, List, ◌++◌, length, get_or, Option, None, Some, slice_get, ℤ, Vec}
 use Rattle.std.specs.declared.alloc.Global.{Global}
-use Rattle.job_base.specs.declared.limits.TheConstants.{MOST_CREATED_WORDS}
+use Rattle.job_base.specs.declared.limits.TheConstants.{MOST_CREATED_WORDS, MOST_ELEMENTS}
 use Rattle.frame_ast.specs.declared.kernel.Kernel.{Kernel}
 use Rattle.frame_ast.specs.Checked.{IsChecked}
 use Rattle.frame_ast.specs.Conflicts.{Uses}
@@ -58,7 +58,7 @@ value_for handles (Jobs k) = jobs_at (slice_get handles k)
 abbrev pub IsThere : ℕ → ℕ → Value → Type 0
 IsThere made handles Dead = Unit {0}
 IsThere made handles (Whole c) = c < made
-IsThere made handles (Slice c start len) = (c < made) × (start ≤ 1048576)
+IsThere made handles (Slice c start len) = (c < made) × (start ≤ MOST_ELEMENTS)
 IsThere made handles (View c number) = c < made
 IsThere made handles (Jobs k) = k < handles
 

@@ -1,5 +1,6 @@
 // Why the script's own statements may not use a container now, and its words where they may.
 ghost use Rattle.std.specs.Prelude.{◌≡◌, ◌<◌, ◌≤◌, Some, vec_len};
+ghost use Rattle.job_base.specs.declared.limits.TheConstants.{MOST_ELEMENTS};
 ghost use Rattle.plan_state.specs.Stands.{IsThere};
 ghost use Rattle.plan_state.specs.Accesses.{tag_in, tag_for, slice_in, view_in, bind_by, is_gone, AreThere, IsCause, IsGone, MayUse};
 
@@ -117,7 +118,7 @@ const NO_WORDS: Bind = Bind::Int(0);
 
 /// A part of an array's words.
 fn slice_of(container: Container, from: u32, len: u32) -> Bind
-    requires { from ≤ 1048576 }
+    requires { from ≤ MOST_ELEMENTS }
     ensures { result ≡ slice_in from len container.bind }
 {
     match container.bind {

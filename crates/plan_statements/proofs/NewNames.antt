@@ -296,7 +296,7 @@ module _ {p : Planner} {g : Setting} {begun : ScriptState} {n : ℕ} {s : Script
       by (Some q) e = not_both e refl
 
   -- a part of it
-  part_there : (k : NameKind) (v : Value) (start len : ℕ) → start ≤ 1048576 → IsOfKind s k (value_for p.world.handles.items v)
+  part_there : (k : NameKind) (v : Value) (start len : ℕ) → start ≤ MOST_ELEMENTS → IsOfKind s k (value_for p.world.handles.items v)
       → is_alive s (value_for p.world.handles.items v) ≡ true
       → start + len ≤ length (value_elements (value_for p.world.handles.items v) (s.contents (states.container_of (value_for p.world.handles.items v))))
       → IsThere (length p.world.containers.items) (length p.world.handles.items) v
@@ -332,7 +332,7 @@ part_stands handles (Handles j) start len = by (slice_get handles j)
     by (Some q) = refl
 
 -- the element at which a value starts
-pub starts_low : (made handles : ℕ) (v : Value) → IsThere made handles v → start_of v ≤ 1048576
+pub starts_low : (made handles : ℕ) (v : Value) → IsThere made handles v → start_of v ≤ MOST_ELEMENTS
 starts_low made handles Dead h = omega arith
 starts_low made handles (Whole c) h = omega arith
 starts_low made handles (Slice c start len) h = h.1
@@ -363,8 +363,8 @@ module _ (line name of start len : ℕ) where
     made : ℕ
     makes_it : makes (record { kinds = step.accepted.kinds; made = made }) name kind.Slice ≡ true
     uses_it : uses (record { kinds = step.accepted.kinds; made = made }) of SLICEABLE ≡ true
-    start_few : start ≤ 1048576
-    len_few : len ≤ 1048576
+    start_few : start ≤ MOST_ELEMENTS
+    len_few : len ≤ MOST_ELEMENTS
 
   slice_used : {script : Script} {table : Table} {n : ℕ} (step : IsStep script table n slice) → IsSliced step
   slice_used step =
@@ -385,8 +385,8 @@ module _ (line name of start len : ℕ) where
     pub of_in : of < vec_len p.world.values
     pub name_in : name < vec_len p.world.values
     pub there : AreThere (vec_len p.world.containers) (vec_len p.world.handles) p.world.values.items
-    pub start_few : start ≤ 1048576
-    pub len_few : len ≤ 1048576
+    pub start_few : start ≤ MOST_ELEMENTS
+    pub len_few : len ≤ MOST_ELEMENTS
 
   pub slice_ready : (p : Planner) → IsReady p slice → IsSliceReady p
   slice_ready p r =
