@@ -1,5 +1,5 @@
 -- Containers that end, in the code's terms: what may be disposed, and what the books keep of it afterwards.
-use Rattle.std.specs.Prelude.{ℕ, ◌≡◌, ◌≢◌, ◌<◌, ◌≤◌, true, false, nat_eq, if◌then◌else◌, List, [], ◌∷◌, length, Option, None, Some, slice_get, Result, Vec}
+use Rattle.std.specs.Prelude.{ℕ, ◌-◌, ◌^◌, ◌≡◌, ◌≢◌, ◌<◌, ◌≤◌, true, false, nat_eq, if◌then◌else◌, List, [], ◌∷◌, length, Option, None, Some, slice_get, Result, Vec}
 use Rattle.std.specs.declared.alloc.Global.{Global}
 use Rattle.std.specs.Result.{IfOk, result_err}
 use Rattle.job_base.specs.declared.Refusal.{Refusal}
@@ -58,7 +58,7 @@ abbrev pub CanEnd : World → Option Container → Type 0
 CanEnd w None = ⊥
 CanEnd w (Some it) =
     (is_taken (place_of w.store it.slot.0).state ≡ true)
-    × ((place_of w.store it.slot.0).version < 4294967295)
+    × ((place_of w.store it.slot.0).version < 2 ^ 32 - 1)
 
 -- Beside that, the book of jobs knows its users, and those for whom ranges are held.
 abbrev pub CanHold : World → Option Container → Type 0

@@ -1,5 +1,5 @@
 -- A new frame, in the code's terms.
-use Rattle.std.specs.Prelude.{ℕ, ◌+◌, ◌≡◌, ◌<◌, ◌≤◌, ◌⊎◌, Bool, true, false, ◌&&◌, not, nat_eq, if◌then◌else◌, List, [], ◌∷◌, ◌++◌, length, Option, None, Some, slice_get}
+use Rattle.std.specs.Prelude.{ℕ, ◌+◌, ◌-◌, ◌^◌, ◌≡◌, ◌<◌, ◌≤◌, ◌⊎◌, Bool, true, false, ◌&&◌, not, nat_eq, if◌then◌else◌, List, [], ◌∷◌, ◌++◌, length, Option, None, Some, slice_get}
 use Rattle.frame_ast.specs.Orders.{Setting}
 use Rattle.frame_ast.specs.Refusals.{is_temp}
 use Rattle.frame_ast.specs.States.{ScriptState}
@@ -23,11 +23,11 @@ is_kept w it = is_taken (place_of w.store it.slot.0).state && nat_eq
 abbrev pub AreSmall : List Container → Type 0
 AreSmall containers = (c : ℕ) (it : Container)
     → slice_get containers c ≡ Some it
-    → (it.version.0 < 4294967295) × (it.frame + 3 < 4294967296)
+    → (it.version.0 < 2 ^ 32 - 1) × (it.frame + 3 < 2 ^ 32)
 
 -- the places of a list can be counted past
 abbrev pub HaveRoom : List ℕ → Type 0
-HaveRoom places = (k c : ℕ) → slice_get places k ≡ Some c → k + 1 < 4294967296
+HaveRoom places = (k c : ℕ) → slice_get places k ≡ Some c → k + 1 < 2 ^ 32
 
 -- OVERDUE CONTAINERS
 

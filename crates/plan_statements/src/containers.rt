@@ -1,5 +1,5 @@
 // A new container: its words, what they are filled with, and what the books are told of it.
-ghost use Rattle.std.specs.Prelude.{◌≡◌, ◌+◌, ◌<◌, ◌≤◌, ◌^◌, ◌↔◌, [], ◌∷◌, option_map, get_or, map, OnOk, IfOk, IfErr, IfSome, IsTrue, vec_len};
+ghost use Rattle.std.specs.Prelude.{◌≡◌, ◌+◌, ◌-◌, ◌<◌, ◌≤◌, ◌^◌, ◌↔◌, [], ◌∷◌, option_map, get_or, map, OnOk, IfOk, IfErr, IfSome, IsTrue, vec_len};
 ghost use Rattle.job_base.specs.declared.limits.TheConstants.{MOST_LIVE_WORDS, MOST_CREATED_WORDS};
 ghost use Rattle.job_base.specs.declared.Refusal.TheVariants.{StoreFull};
 ghost use Rattle.kernel_exec.specs.Binds.{end_of};
@@ -20,7 +20,7 @@ use std::alloc::Global;
 /// Words for a new container, or none where the store is full: then the statement is refused.
 pub(crate) fn take_words(world: &mut World, len: u64) -> Result<Option<Taken>, PlanFault>
     requires low { peak_of world.old.store ≤ MOST_CREATED_WORDS }
-    requires slots { slots_in_use world.old.store < 4294967295 }
+    requires slots { slots_in_use world.old.store < 2 ^ 32 - 1 }
     ensures taken { IfOk result (TakesUnlessFull world.old world.new len) }
     ensures fails { IfErr result (λ fault. FailsToTake fault world.old len) }
 {

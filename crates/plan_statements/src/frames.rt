@@ -1,5 +1,5 @@
 // `frame`: containers that live for one frame end, and those that are overdue are reported.
-ghost use Rattle.std.specs.Prelude.{◌≡◌, ◌+◌, ◌<◌, Some, All, IfOk, OnOk, slice_get, vec_len};
+ghost use Rattle.std.specs.Prelude.{◌≡◌, ◌+◌, ◌-◌, ◌^◌, ◌<◌, Some, All, IfOk, OnOk, slice_get, vec_len};
 ghost use Rattle.frame_ast.specs.declared.script.Order.TheVariants.{Frame as FrameOf};
 ghost use Rattle.frame_ast.specs.declared.script.Script.{Script};
 ghost use Rattle.frame_ast.specs.Orders.{Table};
@@ -92,7 +92,7 @@ fn end_temps(world: &mut World)
 /// A container ends, where it is alive.
 fn end_temp(world: &mut World, number: u32, container: Container)
     requires has { slice_get world.old.containers.items number ≡ Some container }
-    requires small { container.version.0 < 4294967295 }
+    requires small { container.version.0 < 2 ^ 32 - 1 }
     ensures { IsOver world.old world.new number container }
 {
     if world.store.live(container.slot, container.version) {
