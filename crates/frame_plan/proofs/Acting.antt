@@ -11,6 +11,7 @@ use Rattle.frame_ast.specs.Accepted.{is_when}
 use Rattle.frame_ast.specs.Orders.{Table, setting}
 use Rattle.frame_core.proofs.Small.{some_is, not_both}
 use Rattle.plan_state.specs.declared.state.PlanFault.{PlanFault}
+use Rattle.plan_state.specs.declared.state.PlanFault.TheVariants.{NoMemory}
 use Rattle.plan_state.specs.declared.answer.Answer.{Answer}
 use Rattle.plan_state.specs.declared.start.JobAnswer.{JobAnswer}
 use Rattle.plan_state.specs.declared.state.Draft.{Draft}
@@ -113,11 +114,19 @@ pub exceeding : {script : Script} {table : Table} {x : Statement} {a : Order} {o
     → ExceedsIn script table fault old (written x a) → ExceedsIn script table fault old x
 exceeding {script} {table} {x} {a} {old} is fault h = subst (λ y. ExceedsIn script table fault old y) (sym (is_written x a is)) h
 
+-- want of memory passes no limit
+pub of_memory : {script : Script} {table : Table} {x : Statement} {old : World} {fault : PlanFault} → fault ≡ NoMemory → ExceedsIn script table fault old x
+of_memory {script} {table} {x} is p b = subst (λ f. PassesLimit f (state_after script table b.n x)) (sym is) tt
+
 -- which statements are asked for an answer
 pub leaves : (a : Order) → ((job : _) → a ≡ Schedule job → ⊥) → is_when a ≡ false → adds_no_job a ≡ true
 leaves (Schedule job) s w = absurd (s job refl)
 leaves (When name sign value count) s w = absurd (not_both refl w)
 leaves a s w = refl
+
+pub not_when : (a : Order) → ((name : ℕ) (sign : Sign) (value : ℤ) (count : ℕ) → a ≡ When name sign value count → ⊥) → is_when a ≡ false
+not_when (When name sign value count) not = absurd (not name sign value count refl)
+not_when a not = refl
 
 pub if_err : {T E : Type 0} (r : Result T E) {P Q : E → Type 0} → ((e : E) → P e → Q e) → IfErr r P → IfErr r Q
 if_err (Ok x) f h = tt

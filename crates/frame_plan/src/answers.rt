@@ -67,23 +67,21 @@ pub(crate) fn answer(
         Order::Remove { name, at } => Ok(plan_statements::remove(world, *name, *at)),
         Order::Clear { name } => Ok(plan_statements::clear(world, *name)),
         Order::SetCapacity { name, cap } => plan_statements::set_capacity(world, *name, *cap),
-        Order::Combine { name, of } => Ok(plan_statements::combine(world, *name, of)?),
-        Order::Complete { name } => Ok(plan_statements::complete(world, alloc, *name)?),
-        Order::CompleteAuto { name } => Ok(plan_statements::complete_auto(world, alloc, *name)?),
+        Order::Combine { name, of } => plan_statements::combine(world, *name, of),
+        Order::Complete { name } => plan_statements::complete(world, alloc, *name),
+        Order::CompleteAuto { name } => plan_statements::complete_auto(world, alloc, *name),
         Order::Dispose {
             name,
             after,
             handle,
         } => match *handle {
             None => Ok(plan_statements::dispose(world, *name)),
-            Some(handle) => Ok(plan_statements::dispose_after(world, *name, after, handle)?),
+            Some(handle) => plan_statements::dispose_after(world, *name, after, handle),
         },
-        Order::DisposeAuto { name, handle } => Ok(plan_statements::dispose_auto(
-            world, *name, *handle,
-        )?),
+        Order::DisposeAuto { name, handle } => plan_statements::dispose_auto(world, *name, *handle),
         Order::Print { name } => Ok(plan_statements::print(world, *name)),
         Order::Flush => Ok(plan_statements::flush(world)),
-        Order::Frame => Ok(plan_statements::frame(world, alloc, line)?),
+        Order::Frame => plan_statements::frame(world, alloc, line),
         Order::Schedule(_) | Order::When { .. } => unreachable!(),
     }
 }

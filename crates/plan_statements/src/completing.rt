@@ -1,23 +1,25 @@
 // `complete`: jobs are completed with their ancestors, and what follows waits for those that weren't before.
-ghost use Rattle.std.specs.Prelude.{◌≤◌, ℕ, IfOk};
+ghost use Rattle.std.specs.Prelude.{◌≡◌, ◌≤◌, ℕ, IfOk, IfErr};
 ghost use Rattle.frame_ast.specs.declared.script.Order.TheVariants.{Complete as CompleteOf};
 ghost use Rattle.frame_ast.specs.Laws.{AreUpTo};
 ghost use Rattle.job_handle.specs.Books.{count_of};
 ghost use Rattle.job_handle.specs.Sets.{jobs_of};
 ghost use Rattle.slot_store.specs.Places.{users_of};
 ghost use Rattle.slot_store.specs.Stores.{place_of};
+ghost use Rattle.plan_state.specs.declared.state.PlanFault.TheVariants as fault;
 ghost use Rattle.plan_state.specs.Answers.{Answers, IsReadyFor};
 ghost use Rattle.plan_statements.specs.Completions.{AreNotCompleted, IsCompletion};
 
 use job_base::{JobId, NoMemory};
 use job_handle::Handle;
-use plan_state::{Answer, World};
+use plan_state::{Answer, PlanFault, World};
 use std::alloc::Global;
 
 /// `complete`, which is never refused.
-pub fn complete(world: &mut World, alloc: Global, name: u32) -> Result<Answer, NoMemory>
+pub fn complete(world: &mut World, alloc: Global, name: u32) -> Result<Answer, PlanFault>
     requires ready { IsReadyFor world.old (CompleteOf name) }
     ensures answers { IfOk result (Answers world.old world.new (CompleteOf name)) }
+    ensures memory { IfErr result (λ f. f ≡ fault.NoMemory) }
 {
     let value = world.values[name as usize];
     let jobs = world.jobs_of(value);
@@ -30,11 +32,12 @@ pub(crate) fn complete_jobs(
     world: &mut World,
     alloc: Global,
     jobs: &Handle,
-) -> Result<Answer, NoMemory>
+) -> Result<Answer, PlanFault>
     requires known { AreUpTo (count_of world.old.jobs) (jobs_of jobs.now) }
     requires before { world.old.jobs_before ≤ count_of world.old.jobs }
     requires users { (k : ℕ) → AreUpTo (count_of world.old.jobs) (users_of (place_of world.old.store k).state) }
-    ensures { IfOk result (IsCompletion world.old world.new (jobs_of jobs.now)) }
+    ensures completion { IfOk result (IsCompletion world.old world.new (jobs_of jobs.now)) }
+    ensures memory { IfErr result (λ f. f ≡ fault.NoMemory) }
 {
     if world.jobs.next_open(jobs, world.jobs_before).is_none() {
         return Ok(Answer::Nothing);

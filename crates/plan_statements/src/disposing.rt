@@ -1,16 +1,17 @@
 // The disposals. A container ends at once; its words come back once all jobs that use it are completed.
-ghost use Rattle.std.specs.Prelude.{◌≡◌, ◌<◌, Some, IfOk, slice_get, vec_len};
+ghost use Rattle.std.specs.Prelude.{◌≡◌, ◌<◌, Some, IfOk, IfErr, slice_get, vec_len};
 ghost use Rattle.frame_ast.specs.declared.script.Order.TheVariants.{Dispose as DisposeOf};
 ghost use Rattle.frame_ast.specs.Laws.{AreUpTo};
 ghost use Rattle.job_handle.specs.Books.{count_of};
 ghost use Rattle.job_handle.specs.Sets.{jobs_of};
+ghost use Rattle.plan_state.specs.declared.state.PlanFault.TheVariants as fault;
 ghost use Rattle.plan_state.specs.Accesses.{AreThere};
 ghost use Rattle.plan_statements.specs.Endings.{CanEnd, CanHold, Disposes, IsDisposable, IsGiven, IsHeldBack, IsReadyToDispose, number_of};
 ghost use Rattle.plan_state.specs.Answers.{Answers, IsReadyFor};
 
-use job_base::{NoMemory, Refusal};
+use job_base::Refusal;
 use job_handle::Handle;
-use plan_state::{Answer, Value, World, refusal_of_blocked};
+use plan_state::{Answer, PlanFault, Value, World, refusal_of_blocked};
 
 /// `dispose` without `after`. Every user is completed, so the words come back at once.
 pub fn dispose(world: &mut World, name: u32) -> Answer
@@ -32,9 +33,10 @@ pub fn dispose_after(
     name: u32,
     after: &Vec<u32>,
     handle: u32,
-) -> Result<Answer, NoMemory>
+) -> Result<Answer, PlanFault>
     requires ready { IsReadyFor world.old (DisposeOf name after.now (Some handle)) }
     ensures answers { IfOk result (Answers world.old world.new (DisposeOf name after.now (Some handle))) }
+    ensures memory { IfErr result (λ f. f ≡ fault.NoMemory) }
 {
     let mut deps = Handle::empty();
     world.set_to_jobs_of(&mut deps, after);

@@ -1,8 +1,9 @@
 // `frame`: containers that live for one frame end, and those that are overdue are reported.
-ghost use Rattle.std.specs.Prelude.{◌≡◌, ◌+◌, ◌-◌, ◌^◌, ◌<◌, Some, All, IfOk, OnOk, slice_get, vec_len};
+ghost use Rattle.std.specs.Prelude.{◌≡◌, ◌+◌, ◌-◌, ◌^◌, ◌<◌, Some, All, IfOk, IfErr, OnOk, slice_get, vec_len};
 ghost use Rattle.frame_ast.specs.declared.script.Order.TheVariants.{Frame as FrameOf};
 ghost use Rattle.frame_ast.specs.declared.script.Script.{Script};
 ghost use Rattle.frame_ast.specs.Orders.{Table};
+ghost use Rattle.plan_state.specs.declared.state.PlanFault.TheVariants as fault;
 ghost use Rattle.plan_state.specs.declared.state.Planner.{Planner};
 ghost use Rattle.plan_state.specs.Answers.{AnswersIn};
 ghost use Rattle.plan_state.specs.Steps.{IsReady};
@@ -11,15 +12,16 @@ ghost use Rattle.plan_statements.specs.Frames.{AreOver, AreReported, AreSmall, H
 use crate::disposing::give_back;
 use frame_core::{Act, Op};
 use job_base::NoMemory;
-use plan_state::{Answer, Container, World};
+use plan_state::{Answer, Container, PlanFault, World};
 use std::alloc::Global;
 
 /// `frame`: what is overdue from now on is reported, and the `temp` containers end.
-pub fn frame(world: &mut World, alloc: Global, line: u32) -> Result<Answer, NoMemory>
+pub fn frame(world: &mut World, alloc: Global, line: u32) -> Result<Answer, PlanFault>
     requires ready { (p : Planner) × IsReady (record p { world = world.old })
         (record { line = line; act = FrameOf }) }
     ensures answers { IfOk result (λ answer. (script : Script) (table : Table)
         → AnswersIn script table world.old world.new (record { line = line; act = FrameOf }) answer) }
+    ensures memory { IfErr result (λ f. f ≡ fault.NoMemory) }
 {
     let ops = report_overdue(world, alloc, line)?;
     end_temps(world);

@@ -1,15 +1,16 @@
 // The statements that give a name to what there is already: `slice`, `view`, `copy` and `combine`. And `flush`, which
 // does nothing: a job may run as soon as it is scheduled.
-ghost use Rattle.std.specs.Prelude.{◌≡◌, ◌+◌, ◌<◌, ◌^◌, ℕ, Some, IfOk};
+ghost use Rattle.std.specs.Prelude.{◌≡◌, ◌+◌, ◌<◌, ◌^◌, ℕ, Some, IfOk, IfErr};
 ghost use Rattle.frame_ast.specs.declared.script.Order.TheVariants.{Slice as SliceOf, View as ViewOf, Copy as CopyOf, Combine as CombineOf, Flush as FlushAll};
+ghost use Rattle.plan_state.specs.declared.state.PlanFault.TheVariants as fault;
 ghost use Rattle.plan_state.specs.declared.state.Planner.{Planner};
 ghost use Rattle.plan_state.specs.Accesses.{IsRefusal, IsWholeAlive, length_in, part_by, start_of, view_by};
 ghost use Rattle.plan_state.specs.Answers.{Answers, IsReadyFor};
 
-use job_base::{NoMemory, Refusal};
+use job_base::Refusal;
 use job_handle::Handle;
 use kernel_exec::Bind;
-use plan_state::{Answer, Value, World};
+use plan_state::{Answer, PlanFault, Value, World};
 
 /// `slice`: `len` elements of an array or of a slice, from `start` on.
 pub fn slice(world: &mut World, name: u32, of: u32, start: u32, len: u32) -> Answer
@@ -88,9 +89,10 @@ pub fn copy(world: &mut World, name: u32, of: u32) -> Answer
 }
 
 /// `combine`: the handle of several.
-pub fn combine(world: &mut World, name: u32, of: &Vec<u32>) -> Result<Answer, NoMemory>
+pub fn combine(world: &mut World, name: u32, of: &Vec<u32>) -> Result<Answer, PlanFault>
     requires ready { IsReadyFor world.old (CombineOf name of.now) }
     ensures answers { IfOk result (Answers world.old world.new (CombineOf name of.now)) }
+    ensures memory { IfErr result (λ f. f ≡ fault.NoMemory) }
 {
     let mut jobs = Handle::empty();
     world.set_to_jobs_of(&mut jobs, of);

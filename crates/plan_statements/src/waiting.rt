@@ -1,7 +1,8 @@
 // The statements with `auto`: they wait for what they have to.
-ghost use Rattle.std.specs.Prelude.{◌≡◌, ◌<◌, slice_get, vec_len, IfOk};
+ghost use Rattle.std.specs.Prelude.{◌≡◌, ◌<◌, slice_get, vec_len, IfOk, IfErr};
 ghost use Rattle.frame_ast.specs.declared.script.Order.TheVariants.{CompleteAuto as CompleteAutoOf, DisposeAuto as DisposeAutoOf};
 ghost use Rattle.job_handle.specs.Sets.{jobs_of};
+ghost use Rattle.plan_state.specs.declared.state.PlanFault.TheVariants as fault;
 ghost use Rattle.plan_state.specs.Accesses.{AreThere};
 ghost use Rattle.plan_state.specs.Answers.{Answers, IsReadyFor};
 ghost use Rattle.plan_statements.specs.Waiting.{AreWaitedFor, IsBroken, IsCompletable, IsLive, KnowsUsers, is_broken};
@@ -9,15 +10,16 @@ ghost use Rattle.plan_statements.specs.Waiting.{AreWaitedFor, IsBroken, IsComple
 use crate::completing::complete_jobs;
 use crate::disposing::{container_of, hold_back};
 use auto_deps::automatic;
-use job_base::{Access, NoMemory, Refusal};
+use job_base::{Access, Refusal};
 use job_handle::Handle;
-use plan_state::{Answer, World};
+use plan_state::{Answer, PlanFault, World};
 use std::alloc::Global;
 
 /// `dispose auto`. The handle's name stands for the jobs that have to be waited for.
-pub fn dispose_auto(world: &mut World, name: u32, handle: u32) -> Result<Answer, NoMemory>
+pub fn dispose_auto(world: &mut World, name: u32, handle: u32) -> Result<Answer, PlanFault>
     requires ready { IsReadyFor world.old (DisposeAutoOf name handle) }
     ensures answers { IfOk result (Answers world.old world.new (DisposeAutoOf name handle)) }
+    ensures memory { IfErr result (λ f. f ≡ fault.NoMemory) }
 {
     match live_container(world, name) {
         None => {
@@ -37,9 +39,10 @@ pub fn dispose_auto(world: &mut World, name: u32, handle: u32) -> Result<Answer,
 }
 
 /// `complete auto`: the jobs are completed that a writing use of the container has to wait for.
-pub fn complete_auto(world: &mut World, alloc: Global, name: u32) -> Result<Answer, NoMemory>
+pub fn complete_auto(world: &mut World, alloc: Global, name: u32) -> Result<Answer, PlanFault>
     requires ready { IsReadyFor world.old (CompleteAutoOf name) }
     ensures answers { IfOk result (Answers world.old world.new (CompleteAutoOf name)) }
+    ensures memory { IfErr result (λ f. f ≡ fault.NoMemory) }
 {
     match completable(world, name) {
         Err(refusal) => Ok(Answer::Refused { name, refusal }),

@@ -3,7 +3,7 @@ use Rattle.std.proofs.lemmas.Int.{ints}
 use Rattle.frame_ast.specs.declared.script.Order.TheVariants as order
 use Rattle.plan_statements.specs.Tables.{columns_of}
 use Rattle.plan_state.proofs.Binding.{if_ok}
-use Rattle.frame_plan.proofs.Acting.{before_at, ready_at, ready_for, answers_in, answers_for, exceeding, if_err}
+use Rattle.frame_plan.proofs.Acting.{before_at, ready_at, ready_for, answers_in, answers_for, exceeding, of_memory, if_err}
 use Rattle.frame_plan.proofs.answers.answer.Goals as goal
 
 pub array-requires : goal.array-requires
@@ -189,33 +189,49 @@ pub combine-requires : goal.combine-requires
 combine-requires c =
     record { ready = ready_for c.in-Combine.is c.requires.ready }
 
-pub returns-in_ok-combine-in-Combine-clause-answers : goal.returns-in_ok-combine-in-Combine-clause-answers
-returns-in_ok-combine-in-Combine-clause-answers c =
-    answers_for c.in-Combine.is _ c.in_ok-combine-in-Combine.ensures.answers
+pub returns-in-Combine-clause-answers : goal.returns-in-Combine-clause-answers
+returns-in-Combine-clause-answers c =
+    if_ok c.combine.result (λ v h. answers_for c.in-Combine.is v h) c.combine.ensures.answers
+
+pub returns-in-Combine-clause-fails : goal.returns-in-Combine-clause-fails
+returns-in-Combine-clause-fails c =
+    if_err c.combine.result (λ fault h. of_memory h) c.combine.ensures.memory
 
 pub complete-requires : goal.complete-requires
 complete-requires c =
     record { ready = ready_for c.in-Complete.is c.requires.ready }
 
-pub returns-in_ok-complete-in-Complete-clause-answers : goal.returns-in_ok-complete-in-Complete-clause-answers
-returns-in_ok-complete-in-Complete-clause-answers c =
-    answers_for c.in-Complete.is _ c.in_ok-complete-in-Complete.ensures.answers
+pub returns-in-Complete-clause-answers : goal.returns-in-Complete-clause-answers
+returns-in-Complete-clause-answers c =
+    if_ok c.complete.result (λ v h. answers_for c.in-Complete.is v h) c.complete.ensures.answers
+
+pub returns-in-Complete-clause-fails : goal.returns-in-Complete-clause-fails
+returns-in-Complete-clause-fails c =
+    if_err c.complete.result (λ fault h. of_memory h) c.complete.ensures.memory
 
 pub complete_auto-requires : goal.complete_auto-requires
 complete_auto-requires c =
     record { ready = ready_for c.in-CompleteAuto.is c.requires.ready }
 
-pub returns-in_ok-complete_auto-in-CompleteAuto-clause-answers : goal.returns-in_ok-complete_auto-in-CompleteAuto-clause-answers
-returns-in_ok-complete_auto-in-CompleteAuto-clause-answers c =
-    answers_for c.in-CompleteAuto.is _ c.in_ok-complete_auto-in-CompleteAuto.ensures.answers
+pub returns-in-CompleteAuto-clause-answers : goal.returns-in-CompleteAuto-clause-answers
+returns-in-CompleteAuto-clause-answers c =
+    if_ok c.complete_auto.result (λ v h. answers_for c.in-CompleteAuto.is v h) c.complete_auto.ensures.answers
+
+pub returns-in-CompleteAuto-clause-fails : goal.returns-in-CompleteAuto-clause-fails
+returns-in-CompleteAuto-clause-fails c =
+    if_err c.complete_auto.result (λ fault h. of_memory h) c.complete_auto.ensures.memory
 
 pub dispose_auto-requires : goal.dispose_auto-requires
 dispose_auto-requires c =
     record { ready = ready_for c.in-DisposeAuto.is c.requires.ready }
 
-pub returns-in_ok-dispose_auto-in-DisposeAuto-clause-answers : goal.returns-in_ok-dispose_auto-in-DisposeAuto-clause-answers
-returns-in_ok-dispose_auto-in-DisposeAuto-clause-answers c =
-    answers_for c.in-DisposeAuto.is _ c.in_ok-dispose_auto-in-DisposeAuto.ensures.answers
+pub returns-in-DisposeAuto-clause-answers : goal.returns-in-DisposeAuto-clause-answers
+returns-in-DisposeAuto-clause-answers c =
+    if_ok c.dispose_auto.result (λ v h. answers_for c.in-DisposeAuto.is v h) c.dispose_auto.ensures.answers
+
+pub returns-in-DisposeAuto-clause-fails : goal.returns-in-DisposeAuto-clause-fails
+returns-in-DisposeAuto-clause-fails c =
+    if_err c.dispose_auto.result (λ fault h. of_memory h) c.dispose_auto.ensures.memory
 
 pub dispose-requires : goal.dispose-requires
 dispose-requires c =
@@ -236,14 +252,23 @@ dispose_after-requires c =
       ready = ready_for (c.in-Dispose.is ∙ ap (λ h. order.Dispose c.in-Dispose.name c.in-Dispose.after h) c.in-Some.is) c.requires.ready;
     }
 
-pub returns-in_ok-dispose_after-in-Some-clause-answers : goal.returns-in_ok-dispose_after-in-Some-clause-answers
-returns-in_ok-dispose_after-in-Some-clause-answers c =
-    answers_for (c.in-Dispose.is ∙ ap (λ h. order.Dispose c.in-Dispose.name c.in-Dispose.after h) c.in-Some.is) _ c.in_ok-dispose_after-in-Some.ensures.answers
+pub returns-in-Some-clause-answers : goal.returns-in-Some-clause-answers
+returns-in-Some-clause-answers c =
+    let is = c.in-Dispose.is ∙ ap (λ h. order.Dispose c.in-Dispose.name c.in-Dispose.after h) c.in-Some.is in
+    if_ok c.dispose_after.result (λ v h. answers_for is v h) c.dispose_after.ensures.answers
+
+pub returns-in-Some-clause-fails : goal.returns-in-Some-clause-fails
+returns-in-Some-clause-fails c =
+    if_err c.dispose_after.result (λ fault h. of_memory h) c.dispose_after.ensures.memory
 
 pub frame-requires : goal.frame-requires
 frame-requires c =
     record { ready = ready_at c.in-Frame.is c.requires.ready }
 
-pub returns-in_ok-frame-in-Frame-clause-answers : goal.returns-in_ok-frame-in-Frame-clause-answers
-returns-in_ok-frame-in-Frame-clause-answers c =
-    answers_in c.in-Frame.is _ (c.in_ok-frame-in-Frame.ensures.answers c.args.script.now (columns_of c.args.table.now))
+pub returns-in-Frame-clause-answers : goal.returns-in-Frame-clause-answers
+returns-in-Frame-clause-answers c =
+    if_ok c.frame.result (λ v h. answers_in c.in-Frame.is v (h c.args.script.now (columns_of c.args.table.now))) c.frame.ensures.answers
+
+pub returns-in-Frame-clause-fails : goal.returns-in-Frame-clause-fails
+returns-in-Frame-clause-fails c =
+    if_err c.frame.result (λ fault h. of_memory h) c.frame.ensures.memory

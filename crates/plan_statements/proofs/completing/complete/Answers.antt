@@ -37,14 +37,12 @@ complete_jobs-requires-clause-users c =
     let r = c.requires.ready in
     (complete_ready (record r.1 { world = c.args.world.now }) c.args.name r.0 r.2).users
 
-pub returns : goal.returns
-returns c =
+pub returns-clause-answers : goal.returns-clause-answers
+returns-clause-answers c =
     let r = c.requires.ready in
     let can = complete_ready (record r.1 { world = c.args.world.now }) c.args.name r.0 r.2 in
-    record {
-      answers = if_ok c.complete_jobs.result (λ answer done line p draft took.
-          complete_goes (record p { world = c.args.world.now }) c.args.name c.complete_jobs.new.world draft answer c.jobs_of-jobs.result
-          c.index-value.result.now
-          (read_some c.args.world.now.values c.args.name c.index-value.result.now can.name_in c.index-value.ensures) c.jobs_of-jobs.ensures done line took)
-          c.complete_jobs.ensures;
-    }
+    if_ok c.complete_jobs.result (λ answer done line p draft took.
+    complete_goes (record p { world = c.args.world.now }) c.args.name c.complete_jobs.new.world draft answer c.jobs_of-jobs.result
+    c.index-value.result.now
+    (read_some c.args.world.now.values c.args.name c.index-value.result.now can.name_in c.index-value.ensures) c.jobs_of-jobs.ensures done line took)
+    c.complete_jobs.ensures.completion

@@ -70,22 +70,19 @@ set_handle-requires-clause-few c =
     subst (λ (k : World). vec_len k.handles < 2 ^ 32) (sym c.hold_back.ensures.rest)
     (after_ready (record r.1 { world = c.args.world.now }) r.0 c.args.name c.args.after.now c.args.handle r.2).few
 
-pub returns-in_ok-clear_handle-in-Err : goal.returns-in_ok-clear_handle-in-Err
-returns-in_ok-clear_handle-in-Err c = record {
-  answers = λ line p draft t. after_says (record p { world = c.args.world.now }) line c.args.name c.args.after.now c.args.handle
-      (record p { world = c.args.world.now; draft = draft }) c.clear_handle.new.self
-      (jobs_of c.set_to_jobs_of.new.all)
-      (λ j. c.set_to_jobs_of.ensures j ∙ ap (λ ns. jobs_by c.args.world.now.handles.items c.args.world.now.values.items ns j) c.deref.ensures.value)
-      c.in-Err.refusal c.in-Err.ensures (was_pushed p c.args.world.now draft _ t)
-      c.in_ok-clear_handle-in-Err.ensures;
-}
+pub returns-in_ok-clear_handle-in-Err-clause-answers : goal.returns-in_ok-clear_handle-in-Err-clause-answers
+returns-in_ok-clear_handle-in-Err-clause-answers c = λ line p draft t.
+    after_says (record p { world = c.args.world.now }) line c.args.name c.args.after.now c.args.handle
+    (record p { world = c.args.world.now; draft = draft }) c.clear_handle.new.self
+    (jobs_of c.set_to_jobs_of.new.all)
+    (λ j. c.set_to_jobs_of.ensures j ∙ ap (λ ns. jobs_by c.args.world.now.handles.items c.args.world.now.values.items ns j) c.deref.ensures.value)
+    c.in-Err.refusal c.in-Err.ensures (was_pushed p c.args.world.now draft _ t)
+    c.in_ok-clear_handle-in-Err.ensures
 
-pub returns-in_ok-set_handle-in-Ok : goal.returns-in_ok-set_handle-in-Ok
-returns-in_ok-set_handle-in-Ok c = record {
-  answers = λ line p draft t. nothing_taken p c.args.world.now c.set_handle.new.self
-      (record { line = line; act = DisposeOf c.args.name c.args.after.now (Some c.args.handle) }) draft t
-      (after_goes (record p { world = c.args.world.now }) line c.args.name c.args.after.now c.args.handle c.hold_back.new.world c.set_handle.new.self
-      (jobs_of c.set_to_jobs_of.new.all)
-      (λ j. c.set_to_jobs_of.ensures j ∙ ap (λ ns. jobs_by c.args.world.now.handles.items c.args.world.now.values.items ns j) c.deref.ensures.value)
-      c.in-Ok.number c.in-Ok.ensures c.hold_back.ensures c.in_ok-set_handle-in-Ok.ensures);
-}
+pub returns-in_ok-set_handle-in-Ok-clause-answers : goal.returns-in_ok-set_handle-in-Ok-clause-answers
+returns-in_ok-set_handle-in-Ok-clause-answers c = λ line p draft t. nothing_taken p c.args.world.now c.set_handle.new.self
+    (record { line = line; act = DisposeOf c.args.name c.args.after.now (Some c.args.handle) }) draft t
+    (after_goes (record p { world = c.args.world.now }) line c.args.name c.args.after.now c.args.handle c.hold_back.new.world c.set_handle.new.self
+    (jobs_of c.set_to_jobs_of.new.all)
+    (λ j. c.set_to_jobs_of.ensures j ∙ ap (λ ns. jobs_by c.args.world.now.handles.items c.args.world.now.values.items ns j) c.deref.ensures.value)
+    c.in-Ok.number c.in-Ok.ensures c.hold_back.ensures c.in_ok-set_handle-in-Ok.ensures)

@@ -36,8 +36,7 @@ overflow_add-world c =
     let was = ap (λ (k : World). k.frame) c.in_ok-ops.ensures.rest in
     omega arith
 
-pub returns : goal.returns
-returns c = record {
-  answers = λ script table p draft took. frame_goes (record p { world = c.args.world.now }) c.report_overdue.new.world c.end_temps.new.world draft
-      c.in_ok-ops.ops.items c.args.line c.in_ok-ops.ensures c.end_temps.ensures took script table;
-}
+pub returns-clause-answers : goal.returns-clause-answers
+returns-clause-answers c = λ script table p draft took.
+    frame_goes (record p { world = c.args.world.now }) c.report_overdue.new.world c.end_temps.new.world draft
+    c.in_ok-ops.ops.items c.args.line c.in_ok-ops.ensures c.end_temps.ensures took script table

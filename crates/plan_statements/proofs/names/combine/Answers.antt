@@ -28,10 +28,9 @@ set_handle-requires-clause-there c = let r = c.requires.ready in (combine_ready 
 pub set_handle-requires-clause-few : goal.set_handle-requires-clause-few
 set_handle-requires-clause-few c = let r = c.requires.ready in (combine_ready r.0 c.args.name c.args.of.now (record r.1 { world = c.args.world.now }) r.2).few
 
-pub returns : goal.returns
-returns c = record {
-  answers = λ line p draft t. nothing_taken p c.args.world.now c.set_handle.new.self (record { line = line; act = CombineOf c.args.name c.args.of.now }) draft t
-      (combined line c.args.name c.args.of.now (record p { world = c.args.world.now }) c.set_handle.new.self c.set_to_jobs_of.new.all
-      (λ j. c.set_to_jobs_of.ensures j ∙ ap (λ ns. jobs_by c.args.world.now.handles.items c.args.world.now.values.items ns j) c.deref.ensures.value)
-      c.in_ok-set_handle.ensures);
-}
+pub returns-clause-answers : goal.returns-clause-answers
+returns-clause-answers c = λ line p draft t.
+    nothing_taken p c.args.world.now c.set_handle.new.self (record { line = line; act = CombineOf c.args.name c.args.of.now }) draft t
+    (combined line c.args.name c.args.of.now (record p { world = c.args.world.now }) c.set_handle.new.self c.set_to_jobs_of.new.all
+    (λ j. c.set_to_jobs_of.ensures j ∙ ap (λ ns. jobs_by c.args.world.now.handles.items c.args.world.now.values.items ns j) c.deref.ensures.value)
+    c.in_ok-set_handle.ensures)

@@ -29,16 +29,12 @@ pub complete_jobs-requires-clause-users : goal.complete_jobs-requires-clause-use
 complete_jobs-requires-clause-users c = let r = c.requires.ready in
     (completing_ready (record r.1 { world = c.args.world.now }) r.0 c.args.name r.2).users
 
-pub returns-in-Err : goal.returns-in-Err
-returns-in-Err c = record {
-  answers = λ line p draft took. completing_says (record p { world = c.args.world.now }) line c.args.name
-      (record p { world = c.args.world.now; draft = draft }) c.in-Err.refusal c.in-Err.ensures (was_pushed p c.args.world.now draft _ took);
-}
+pub returns-in-Err-clause-answers : goal.returns-in-Err-clause-answers
+returns-in-Err-clause-answers c = λ line p draft took. completing_says (record p { world = c.args.world.now }) line c.args.name
+    (record p { world = c.args.world.now; draft = draft }) c.in-Err.refusal c.in-Err.ensures (was_pushed p c.args.world.now draft _ took)
 
-pub returns-in-Ok : goal.returns-in-Ok
-returns-in-Ok c = record {
-  answers = if_ok c.complete_jobs.result (λ answer done line p draft took.
-      completing_goes (record p { world = c.args.world.now }) line c.args.name c.complete_jobs.new.world draft answer
-      (jobs_of c.waited_for-jobs.result)
-      c.in-Ok.number c.in-Ok.ensures c.waited_for-jobs.ensures done took) c.complete_jobs.ensures;
-}
+pub returns-in-Ok-clause-answers : goal.returns-in-Ok-clause-answers
+returns-in-Ok-clause-answers c = if_ok c.complete_jobs.result (λ answer done line p draft took.
+    completing_goes (record p { world = c.args.world.now }) line c.args.name c.complete_jobs.new.world draft answer
+    (jobs_of c.waited_for-jobs.result)
+    c.in-Ok.number c.in-Ok.ensures c.waited_for-jobs.ensures done took) c.complete_jobs.ensures.completion

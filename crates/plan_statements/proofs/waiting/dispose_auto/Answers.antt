@@ -53,19 +53,15 @@ set_handle-requires-clause-few c =
     subst (λ (k : World). vec_len k.handles < 2 ^ 32) (sym c.hold_back.ensures.rest)
     (ending_ready (record r.1 { world = c.args.world.now }) r.0 c.args.name c.args.handle r.2).few
 
-pub returns-in_ok-clear_handle-in-None : goal.returns-in_ok-clear_handle-in-None
-returns-in_ok-clear_handle-in-None c = record {
-  answers = λ line p draft t. ending_says (record p { world = c.args.world.now }) line c.args.name c.args.handle
-      (record p { world = c.args.world.now; draft = draft }) c.clear_handle.new.self
-      c.in-None.ensures (was_pushed p c.args.world.now draft _ t)
-      c.in_ok-clear_handle-in-None.ensures;
-}
+pub returns-in_ok-clear_handle-in-None-clause-answers : goal.returns-in_ok-clear_handle-in-None-clause-answers
+returns-in_ok-clear_handle-in-None-clause-answers c = λ line p draft t. ending_says (record p { world = c.args.world.now }) line c.args.name c.args.handle
+    (record p { world = c.args.world.now; draft = draft }) c.clear_handle.new.self
+    c.in-None.ensures (was_pushed p c.args.world.now draft _ t)
+    c.in_ok-clear_handle-in-None.ensures
 
-pub returns-in_ok-set_handle-in-Some : goal.returns-in_ok-set_handle-in-Some
-returns-in_ok-set_handle-in-Some c = record {
-  answers = λ line p draft t. nothing_taken p c.args.world.now c.set_handle.new.self
-      (record { line = line; act = DisposeAutoOf c.args.name c.args.handle }) draft t
-      (ending_goes (record p { world = c.args.world.now }) line c.args.name c.args.handle c.hold_back.new.world c.set_handle.new.self
-      (jobs_of c.waited_for-deps.result) c.in-Some.number c.in-Some.ensures c.waited_for-deps.ensures c.hold_back.ensures
-      c.in_ok-set_handle-in-Some.ensures);
-}
+pub returns-in_ok-set_handle-in-Some-clause-answers : goal.returns-in_ok-set_handle-in-Some-clause-answers
+returns-in_ok-set_handle-in-Some-clause-answers c = λ line p draft t. nothing_taken p c.args.world.now c.set_handle.new.self
+    (record { line = line; act = DisposeAutoOf c.args.name c.args.handle }) draft t
+    (ending_goes (record p { world = c.args.world.now }) line c.args.name c.args.handle c.hold_back.new.world c.set_handle.new.self
+    (jobs_of c.waited_for-deps.result) c.in-Some.number c.in-Some.ensures c.waited_for-deps.ensures c.hold_back.ensures
+    c.in_ok-set_handle-in-Some.ensures)
