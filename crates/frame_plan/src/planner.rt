@@ -3,6 +3,7 @@ ghost use Rattle.std.specs.Prelude.{Box, ◌≡◌, ◌+◌, ◌≤◌, ℕ, Lis
 ghost use Rattle.std.specs.declared.alloc.Global.{Global};
 ghost use Rattle.frame_ast.specs.declared.script.NewJob.{NewJob};
 ghost use Rattle.frame_ast.specs.declared.script.Order.TheVariants.{Schedule};
+ghost use Rattle.frame_ast.specs.declared.script.Script.{Script as File};
 ghost use Rattle.frame_ast.specs.Accepted.{IsAccepted, is_when};
 ghost use Rattle.frame_ast.specs.Orders.{Table as Columns};
 ghost use Rattle.frame_ast.specs.States.{ScriptState};
@@ -19,7 +20,7 @@ use frame_core::Op;
 use job_base::NoMemory;
 use job_handle::JobBook;
 use plan_schedules::Gathered;
-use plan_state::{Container, Draft, PlanFault, Planner, Value, World};
+use plan_state::{Answer, Container, Draft, PlanFault, Planner, Value, World};
 use safety_handle::SafetyBook;
 use slot_store::SlotStore;
 use std::alloc::Global;
@@ -128,29 +129,45 @@ fn pass(
         planner.world.passing -= 1;
         return Ok(true);
     }
-    if let Order::When {
-        name,
-        sign,
-        value,
-        count,
-    } = &statement.act
-    {
-        return match plan_statements::refuse_test(
-            &mut planner.world,
-            *name,
-            *sign,
-            *value,
-            *count,
-        ) {
+    if let Order::When { .. } = &statement.act {
+        return pass_test(planner, alloc, statement);
+    }
+    act(planner, alloc, script, table, statement, gathered)?;
+    Ok(true)
+}
+
+/// Goes on by a `when`. The answer is false where it acts: there the planner stays as it was.
+// Inlined, what it answers would be cleared for every other statement too.
+#[inline(never)]
+fn pass_test(planner: &mut Planner, alloc: Global, statement: &Statement) -> Result<bool, PlanFault>
+    requires at { (script : File) × (columns : Columns) × IsAtStatement script columns planner.old statement.now }
+    requires acts { planner.old.world.passing ≡ 0 }
+    requires test { is_when statement.now.act ≡ true }
+    ensures passed { (script : File) (columns : Columns) → IfOk result (λ went. went ≡ true
+        → HasPassed script columns planner.old planner.new statement.now) }
+    ensures stops { (script : File) (columns : Columns) → IfOk result (λ went. went ≡ false
+        → StopsAt script columns planner.old statement.now) }
+    ensures past { (script : File) (columns : Columns) → IfOk result (λ went. went ≡ true
+        → GoesPast script columns planner.old statement.now) }
+    ensures stays { IfOk result (λ went. went ≡ false → planner.new ≡ planner.old) }
+    ensures fails { (script : File) (columns : Columns) → IfErr result (λ fault.
+        FailsAtPlace script columns fault planner.old statement.now) }
+{
+    match &statement.act {
+        Order::When {
+            name,
+            sign,
+            value,
+            count,
+        } => match plan_statements::refuse_test(&mut planner.world, *name, *sign, *value, *count) {
             None => Ok(false),
             Some(answer) => {
                 planner.draft.take(alloc, statement.line, answer)?;
                 Ok(true)
             }
-        };
+        },
+        _ => unreachable!(),
     }
-    act(planner, alloc, script, table, statement, gathered)?;
-    Ok(true)
 }
 
 /// What a statement does that is neither passed by nor a `when`: it changes what statements see, and the draft takes
@@ -170,14 +187,15 @@ fn act(
     ensures fails { IfErr result (λ fault.
         FailsAtPlace script.now (columns_of table.now) fault planner.old statement.now) }
 {
-    match &statement.act {
-        Order::Schedule(job) => act_schedule(planner, alloc, script, statement, job, gathered),
-        Order::When { .. } => unreachable!(),
-        // By `?` an answer would be copied once more, here and below.
-        _ => match answer(&mut planner.world, alloc, script, table, statement) {
-            Ok(answer) => Ok(planner.draft.take(alloc, statement.line, answer)?),
-            Err(fault) => Err(fault),
-        },
+    if let Order::Schedule(job) = &statement.act {
+        return act_schedule(planner, alloc, script, statement, job, gathered);
+    }
+    // By `?` an answer would be copied once more, here and below.
+    match answer(&mut planner.world, alloc, script, table, statement) {
+        // Told here, since many statements leave nothing to do.
+        Ok(Answer::Nothing) => Ok(()),
+        Ok(answer) => Ok(planner.draft.take(alloc, statement.line, answer)?),
+        Err(fault) => Err(fault),
     }
 }
 

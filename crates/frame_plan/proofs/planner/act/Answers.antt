@@ -1,4 +1,6 @@
-use Rattle.std.proofs.Common.{refl}
+use Rattle.std.proofs.Common.{refl, subst}
+use Rattle.plan_state.specs.declared.answer.Answer.TheVariants.{Nothing}
+use Rattle.plan_state.specs.Answers.{AnswersIn}
 use Rattle.plan_statements.specs.Tables.{columns_of}
 use Rattle.plan_schedules.proofs.Forms.{boxed}
 use Rattle.frame_plan.proofs.Acting.{before, taken_in, few_literals, exceeds_in, leaves}
@@ -32,6 +34,14 @@ pub take-requires : goal.take-requires
 take-requires c = record {
   few = few_literals c.requires.at
       c.requires.acts _ refl;
+}
+
+pub returns-in-Ok-Nothing : goal.returns-in-Ok-Nothing
+returns-in-Ok-Nothing c = record {
+  passed = taken_in c.requires.at c.requires.acts _ refl c.answer.new.world c.args.planner.now.draft Nothing
+      (subst (AnswersIn c.args.script.now (columns_of c.args.table.now) c.args.planner.now.world c.answer.new.world c.args.statement.now)
+      c.in-Ok-Nothing.field-0-is c.in-Ok-Nothing.ensures.answers) refl;
+  fails = tt;
 }
 
 pub returns-in-Err : goal.returns-in-Err
