@@ -71,8 +71,8 @@ impl<'a> Walk<'a> {
         ensures outer_tests { IfOk result (λ walk. walk.outer_tests.items ≡ []) }
     {
         Ok(Walk {
-            // A statement that makes a name has some four tokens, so a name has four buckets, and few share theirs.
-            names: Names::new(alloc, tokens)?,
+            // A statement that makes a name has some four tokens, so a name has two buckets, and few share theirs.
+            names: Names::new(alloc, tokens / 2)?,
             kernels: Kernels::new(alloc),
             literals: Vec::new(alloc),
             written: Written::new(alloc),
